@@ -2,8 +2,7 @@
 use Rattle.std.proofs.Common.{◌≡◌, [], ◌<◌, List, length, map, ap, refl, arith}
 use Rattle.std.proofs.lemmas.List.{length-map}
 use Rattle.jvm_model.specs.Library.{builtin_defs}
-use Rattle.builtin_lib.specs.declared.rows.ClassRow.{ClassRow}
-use Rattle.builtin_lib.specs.Rows.{class_of, field_count, method_count}
+use Rattle.builtin_lib.specs.{declared.rows.ClassRow.ClassRow, Rows.class_of, Rows.field_count, Rows.method_count}
 
 -- rows that stand for the built-in classes are few, and so are their fields and methods
 pub few_classes : (rows : List ClassRow) → map class_of rows ≡ builtin_defs → length rows < 4294967296

@@ -1,9 +1,8 @@
 -- All groups of rows, the built-in methods and the driver are typed.
 use Rattle.std.proofs.Common.{◌≡◌}
-use Rattle.jvm_model.specs.declared.{instr.Instr.Instr, program.Program.Program}
+use Rattle.jvm_model.specs.{declared.instr.Instr.Instr, declared.program.Program.Program, World.World, Entries.Entries, RowsStatics.row_statics}
 use Rattle.jvm_model.specs.declared.instr.Instr.TheVariants as form
-use Rattle.jvm_model.specs.{World.World, Entries.Entries, RowsStatics.row_statics, RowsFields.row_fields}
-use Rattle.jvm_model.specs.Step.{statics, fields, group_of}
+use Rattle.jvm_model.specs.{RowsFields.row_fields, Step.statics, Step.fields, Step.group_of}
 use Rattle.type_frames.specs.Typing.{IsTyped}
 use Rattle.check_sound.proofs.{Ready.Row, Ready.Ready, StaticRows.get_static, StaticRows.put_static, FieldRows.get_field, FieldRows.put_field}
 use Rattle.check_sound.proofs.{NestedRow.create-typed, ArrayRows.arrays-typed, CastRows.casts-typed, CastRows.throw-typed, NativeRows.native-typed}

@@ -2,10 +2,9 @@
 use Rattle.std.proofs.Common.{◌≡◌, ℕ, zero, suc, ◌-◌, ◌≤◌, List, [], ◌∷◌, ◌++◌, length, drop, reverse, replicate, true, false, nat_eq, Option, Some, None, is_some, refl, sym, ◌∙◌, ap, subst, arith, inl, inr}
 use Rattle.std.specs.Prelude.{flat_map}
 use Rattle.std.proofs.lemmas.{Bool.cases_Bool, Bool.and_parts, Bool.eqb-true, List.reverse-append, List.append_assoc}
-use Rattle.jvm_model.specs.declared.{values.Value.Value, program.Program.Program, program.Body.Body}
+use Rattle.jvm_model.specs.{declared.values.Value.Value, declared.program.Program.Program, declared.program.Body.Body, World.World, Classes.method_at}
 use Rattle.jvm_model.specs.declared.values.Value.TheVariants as value
-use Rattle.jvm_model.specs.{World.World, Classes.method_at, Descriptors.parameters, Linked.IsMethod}
-use Rattle.jvm_model.specs.Entries.{slots_of, filled, frame_of}
+use Rattle.jvm_model.specs.{Descriptors.parameters, Linked.IsMethod, Entries.slots_of, Entries.filled, Entries.frame_of}
 use Rattle.type_frames.specs.declared.{vtype.VType.VType, stack_effect.OperandConstraint.OperandConstraint}
 use Rattle.type_frames.specs.declared.vtype.VType.TheVariants.{Top, Int, Long, Null, Object, UninitThis, Uninit}
 use Rattle.type_frames.specs.declared.stack_effect.OperandConstraint.TheVariants.{Fits, Half, Never}

@@ -8,9 +8,8 @@ use Rattle.jvm_model.specs.declared.values.Kind.TheVariants as kind
 use Rattle.jvm_model.specs.declared.values.Location.TheVariants as place
 use Rattle.jvm_model.specs.declared.instr.Cell.TheVariants as cell
 use Rattle.jvm_model.specs.declared.instr.Instr.TheVariants as form
-use Rattle.jvm_model.specs.declared.{outcome.Next.TheVariants.Fault, program.Program.Program}
-use Rattle.jvm_model.specs.{World.World, World.size, Classes.member, Entries.Entries, Entries.with_stack, Kinds.element_kind, Kinds.kind_fits}
-use Rattle.jvm_model.specs.Access.{Access, read, write}
+use Rattle.jvm_model.specs.{declared.outcome.Next.TheVariants.Fault, declared.program.Program.Program, World.World, World.size, Classes.member}
+use Rattle.jvm_model.specs.{Entries.Entries, Entries.with_stack, Kinds.element_kind, Kinds.kind_fits, Access.Access, Access.read, Access.write}
 use Rattle.jvm_model.specs.Builtin.{object_class, null_pointer_exception, array_index_exception, array_store_exception}
 use Rattle.jvm_model.specs.{Linked.Linked, Linked.IsKind, Narrow.narrow, Step.group_of, Step.arrays}
 use Rattle.et_base.specs.Numbers.{l2i}

@@ -7,16 +7,14 @@ use Rattle.std.proofs.lemmas.List.{length-append, length-drop, length-reverse}
 use Rattle.std.specs.Prelude.{reverse}
 use Rattle.check_sound.proofs.{Wide.turned_length, Held.Locals, Held.Held, Held.locals_fit, Held.held_fits}
 use Rattle.std.proofs.lemmas.Option.{slice_get-get_or, slice_get_within, get_or_from_slice_get}
-use Rattle.jvm_model.specs.declared.{values.Value.Value, state.EntryKind.TheVariants.InMethod}
+use Rattle.jvm_model.specs.declared.{values.Value.Value, state.EntryKind.TheVariants.InMethod, program.Program.Program, program.MethodRec.MethodRec}
 use Rattle.jvm_model.specs.declared.instr.Instr.TheVariants as form
-use Rattle.jvm_model.specs.declared.program.{Program.Program, MethodRec.MethodRec, Body.Body, Placed.Placed}
-use Rattle.jvm_model.specs.{World.World, Builtin.builtin_count}
+use Rattle.jvm_model.specs.{declared.program.Body.Body, declared.program.Placed.Placed, World.World, Builtin.builtin_count}
 use Rattle.jvm_model.specs.{Library.builtin_defs, Library.builtin_classes, Library.builtin_methods, Linked.IsBody, Linked.IsPlace, Linked.count}
 use Rattle.jvm_model.specs.Classes.{no_class, no_method, class_at, method_at, form_at, next_place}
 use Rattle.jvm_model.proofs.Places as places
 use Rattle.jvm_model.proofs.BuiltinRules.{class_keeps, method_keeps}
-use Rattle.type_frames.specs.declared.{vtype.Frame.Frame, stack_effect.StackEffect.StackEffect}
-use Rattle.type_frames.specs.Frames.{Slots, slots_of, index_of}
+use Rattle.type_frames.specs.{declared.vtype.Frame.Frame, declared.stack_effect.StackEffect.StackEffect, Frames.Slots, Frames.slots_of, Frames.index_of}
 use Rattle.type_frames.specs.{Given.given_frames, StackEffect.sides, TypedState.Goes}
 use Rattle.type_frames.specs.Environment.{Environment, environment_of, given_at, is_target, leads, targets}
 use Rattle.type_frames.specs.Rules.{turned, is_sound, all_made, rule_1, rule_2, rule_3, rule_4, rule_5, rule_6, rule_7, rule_9, rule_10, rule_11, Test, first_broken, tests, broken, after, opening, fits_given, fits_at, fits_next, slots_fit}

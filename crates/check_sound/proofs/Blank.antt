@@ -4,12 +4,11 @@ use Rattle.std.specs.Prelude.{filter}
 use Rattle.std.specs.List.{list_all}
 use Rattle.std.proofs.lemmas.Bool.{cases_Bool, not-true, or_cases, eqb-true, eq-eqb, ltb-true, ltb-false}
 use Rattle.std.proofs.lemmas.{List.length-replicate, List.get_or-replicate, Option.slice_get-get_or}
-use Rattle.jvm_model.specs.declared.values.{Value.Value, Base.Base, Kind.Kind, Head.Head}
+use Rattle.jvm_model.specs.declared.{values.Value.Value, values.Base.Base, values.Kind.Kind, values.Head.Head, program.Program.Program}
 use Rattle.jvm_model.specs.declared.values.Value.TheVariants as value
 use Rattle.jvm_model.specs.declared.values.Base.TheVariants as base
 use Rattle.jvm_model.specs.declared.values.Kind.TheVariants as kind
-use Rattle.jvm_model.specs.declared.program.{Program.Program, ClassRec.ClassRec, FieldRec.FieldRec}
-use Rattle.jvm_model.specs.{World.World, World.look, Builtin.builtin_count, View.keys}
+use Rattle.jvm_model.specs.{declared.program.ClassRec.ClassRec, declared.program.FieldRec.FieldRec, World.World, World.look, Builtin.builtin_count, View.keys}
 use Rattle.jvm_model.specs.Library.{builtin_defs, builtin_classes, builtin_fields}
 use Rattle.jvm_model.specs.Classes.{no_class, class_at, field_at, is_static, member, plain_fields, layout_in, layout, upwards, default_of, element_default, fields_of, elems_of, blank}
 use Rattle.jvm_model.specs.Linked.{IsClass, IsField, IsKind, first_or, opens}

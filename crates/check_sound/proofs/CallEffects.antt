@@ -1,21 +1,18 @@
 -- What a call leaves of the frame of types, and the values that it gives.
 use Rattle.std.proofs.Common.{◌≡◌, ℕ, ◌≤◌, List, [], ◌∷◌, ◌++◌, length, drop, Bool, true, false, Option, Some, None, refl, sym, ◌∙◌, subst, arith}
 use Rattle.std.specs.Prelude.{slice_index_or}
-use Rattle.std.proofs.lemmas.{List.length-append, List.length-reverse, Option.same_Some}
+use Rattle.std.proofs.lemmas.{List.length-append, List.length-reverse, Option.same_Some, Bool.and_parts, Bool.eqb-true, Bool.leb-true}
 use Rattle.std.specs.Str.{bytes_eq}
-use Rattle.std.proofs.lemmas.Bool.{and_parts, eqb-true, leb-true}
-use Rattle.jvm_model.specs.declared.{values.Value.Value, values.Kind.Kind, instr.Instr.Instr}
+use Rattle.jvm_model.specs.declared.{values.Value.Value, values.Kind.Kind, instr.Instr.Instr, program.Program.Program, program.MethodRec.MethodRec}
 use Rattle.jvm_model.specs.declared.values.Value.TheVariants as value
 use Rattle.jvm_model.specs.declared.values.Kind.TheVariants as kind
 use Rattle.jvm_model.specs.declared.instr.Instr.TheVariants as form
-use Rattle.jvm_model.specs.declared.program.{Program.Program, MethodRec.MethodRec, Placed.Placed}
-use Rattle.jvm_model.specs.{World.World, Linked.Linked, Linked.IsClass, Narrow.narrow, Narrow.narrowed}
+use Rattle.jvm_model.specs.{declared.program.Placed.Placed, World.World, Linked.Linked, Linked.IsClass, Narrow.narrow, Narrow.narrowed}
 use Rattle.jvm_model.specs.Classes.{method_at, init_name, is_below}
-use Rattle.type_frames.specs.declared.vtype.VType.{VType}
+use Rattle.type_frames.specs.declared.{vtype.VType.VType, stack_effect.OperandConstraint.OperandConstraint, stack_effect.OperandConstraint.TheVariants.Raw}
 use Rattle.type_frames.specs.declared.vtype.VType.TheVariants.{Top, Int, Long, Null, Object, UninitThis, Uninit}
-use Rattle.type_frames.specs.declared.stack_effect.{OperandConstraint.OperandConstraint, OperandConstraint.TheVariants.Raw, StackEffect.StackEffect}
-use Rattle.type_frames.specs.{Frames.Slots, Frames.same, Frames.places_of, Frames.spread, Rules.meets, Rules.meet_all, Rules.turned, Rules.after}
-use Rattle.type_frames.specs.{Descriptors.name_of, Environment.Environment, Environment.made_at}
+use Rattle.type_frames.specs.{declared.stack_effect.StackEffect.StackEffect, Frames.Slots, Frames.same, Frames.places_of, Frames.spread}
+use Rattle.type_frames.specs.{Rules.meets, Rules.meet_all, Rules.turned, Rules.after, Descriptors.name_of, Environment.Environment, Environment.made_at}
 use Rattle.type_frames.specs.StackEffect.{sides, place_of, on_stack, argument_needs, result_types, call_sides, is_that, is_start, started, init_sides, special_sides, special_need, is_raw}
 use Rattle.type_frames.specs.TypedState.{HaveStackTypes, kind_at, IsInRange, IsInstance, is_class_with, HasType, called_by}
 use Rattle.check_sound.proofs.Held.{Locals, Held, on_top, int_on, long_on, locals_turned, held_turned}

@@ -23,13 +23,12 @@ use Rattle.jvm_model.specs.Step.{group_of, calls as of_calls}
 use Rattle.type_frames.specs.declared.{vtype.VType.VType, stack_effect.OperandConstraint.OperandConstraint}
 use Rattle.type_frames.specs.declared.vtype.VType.TheVariants.{Top, Int, Long, Null, Object, UninitThis, Uninit}
 use Rattle.type_frames.specs.declared.stack_effect.OperandConstraint.TheVariants.{Fits, Raw, Never}
-use Rattle.type_frames.specs.declared.stack_effect.StackEffect.{StackEffect}
-use Rattle.type_frames.specs.{Frames.spread, Frames.places_of, Environment.Environment, Environment.made_at, Assign.assignable, Rules.meets, Rules.turned}
-use Rattle.type_frames.specs.{Descriptors.types_of, Descriptors.name_of, Descriptors.kind_name, Given.is_constructor, Given.this_types, Given.entry_types}
+use Rattle.type_frames.specs.{declared.stack_effect.StackEffect.StackEffect, Frames.spread, Frames.places_of, Environment.Environment, Environment.made_at}
+use Rattle.type_frames.specs.{Assign.assignable, Rules.meets, Rules.turned, Descriptors.types_of, Descriptors.name_of, Descriptors.kind_name}
+use Rattle.type_frames.specs.{Given.is_constructor, Given.this_types, Given.entry_types, Typing.IsTyped}
 use Rattle.jvm_model.proofs.Upwards.{below_same as itself_below, below_trans}
 use Rattle.check_sound.proofs.{Instances.below_class, Instances.super_below, Instances.instance_itself, Onward.whole, Onward.not_full, Onward.ready_grows}
 use Rattle.type_frames.specs.StackEffect.{sides, argument_needs, result_types, on_stack, call_sides, is_that, is_start, init_sides, special_need, object_of, place_of}
-use Rattle.type_frames.specs.Typing.{IsTyped}
 use Rattle.type_frames.specs.TypedState.{is_class_with, kind_at, IsInRange, IsInstance, RefersTo, HasType, HaveTypes, IsBelow, class_begun, called_by}
 use Rattle.check_sound.proofs.{Tree.typed_done, Tree.typed_spend, Grow.Ranged, Arrive.has_number, Ends.fault_typed, Ends.using-typed}
 use Rattle.check_sound.proofs.Held.{refers_fits, Is, Held, IsShort, held_over, locals_over, is_fits}

@@ -13,8 +13,7 @@ use Rattle.check_sound.proofs.{Instances.takes_every, Instances.instance_below, 
 use Rattle.std.proofs.lemmas.Bool.{not-true}
 use Rattle.jvm_model.specs.{Linked.Linked, Linked.IsKind, Access.done}
 use Rattle.jvm_model.specs.{RowsCasts.cast_to, RowsCasts.cast, RowsCasts.tested, RowsCasts.row_casts, Step.group_of, Step.casts, Step.row_throw}
-use Rattle.type_frames.specs.declared.vtype.VType.TheVariants.{Object}
-use Rattle.type_frames.specs.{Descriptors.name_of, Descriptors.kind_name, StackEffect.sides, Typing.IsTyped}
+use Rattle.type_frames.specs.{declared.vtype.VType.TheVariants.Object, Descriptors.name_of, Descriptors.kind_name, StackEffect.sides, Typing.IsTyped}
 use Rattle.type_frames.specs.TypedState.{kind_at, IsInstance, RefersTo}
 use Rattle.check_sound.proofs.Held.{Is, Held, on_top, int_on}
 use Rattle.check_sound.proofs.Operands.{rest_of, popping-fits, head-typed, choose-typed}

@@ -11,17 +11,15 @@ use Rattle.jvm_model.specs.{World.World, World.size, World.make_object, Entries.
 use Rattle.jvm_model.specs.{World.Object as Made, Builtin.instantiation_error, Builtin.negative_size_exception, Classes.blank, Classes.instance_head}
 use Rattle.jvm_model.specs.RowsCreate.{new_object, is_bare, array_head, new_array, row_create}
 use Rattle.jvm_model.proofs.{Places.places_from, Locations.at_make_new, Locations.size_make}
-use Rattle.check_sound.proofs.{KindNames.kind_itself, Arrive.is_body, Onward.grows_make, Onward.ready_grows}
+use Rattle.check_sound.proofs.{KindNames.kind_itself, Arrive.is_body, Onward.grows_make, Onward.ready_grows, Tree.typed_done, Tree.typed_make, Tree.typed_spend}
 use Rattle.type_frames.specs.declared.vtype.VType.TheVariants.{Top, Int, Object, Uninit}
 use Rattle.type_frames.specs.{Frames.index_of, Given.places, Descriptors.kind_name, StackEffect.sides, StackEffect.is_that, Typing.IsTyped}
 use Rattle.type_frames.specs.Environment.{Environment, found_at, class_made, made_at}
 use Rattle.type_frames.specs.TypedState.{kind_at, IsInstance, is_class_with, HasType}
-use Rattle.check_sound.proofs.Tree.{typed_done, typed_make, typed_spend}
-use Rattle.check_sound.proofs.Held.{Is, Held, on_top, locals_over, held_over, locals_turned, held_turned}
 use Rattle.check_sound.proofs.Operands.{rest_of, popping-fits, on_int-typed, choose-typed}
+use Rattle.check_sound.proofs.Held.{Is, Held, on_top, locals_over, held_over, locals_turned, held_turned}
+use Rattle.check_sound.proofs.{Ends.fault_typed, Ends.using-typed, Ends.new_kind, Thrown.instantiation_thrown, Thrown.negative_size_thrown, Blank.blank_new}
 use Rattle.check_sound.proofs.Ready.{Ends, Row, Ready, here, rest, operands, on, names_form}
-use Rattle.check_sound.proofs.Ends.{fault_typed, using-typed, new_kind}
-use Rattle.check_sound.proofs.{Thrown.instantiation_thrown, Thrown.negative_size_thrown, Blank.blank_new}
 
 -- ---- the class that a `new` names
 

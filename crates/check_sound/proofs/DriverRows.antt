@@ -27,10 +27,9 @@ use Rattle.et_base.proofs.Texts.{units_true}
 use Rattle.check_sound.proofs.Tree.{IsSpot, typed_done, typed_read, typed_mark, typed_make, typed_spend, Over}
 use Rattle.check_sound.proofs.{Grow.Ranged, Grow.throwable_over, RaiseRows.throwable_instance, Blank.blank_new, Instances.below_is}
 use Rattle.check_sound.proofs.{Ready.TypedEntries, Ready.Rest, Ready.closed, Onward.grows_make, Onward.grows_begin, Onward.entries_grow}
-use Rattle.check_sound.proofs.Thrown.{abstract_thrown, overflow_thrown, no_class_thrown}
+use Rattle.check_sound.proofs.{Thrown.abstract_thrown, Thrown.overflow_thrown, Thrown.no_class_thrown, Arguments.EntersWith, Arguments.entered_frame}
 use Rattle.check_sound.proofs.Ends.{Local, TurnsTo, Step, tested, throws-typed, new_kind, stage_over}
-use Rattle.check_sound.proofs.{Arguments.EntersWith, Arguments.entered_frame, CallRows.this_type, CallRows.this_is}
-use Rattle.check_sound.proofs.SelectLaws.{found, declares, of_classes}
+use Rattle.check_sound.proofs.{CallRows.this_type, CallRows.this_is, SelectLaws.found, SelectLaws.declares, SelectLaws.of_classes}
 use Rattle.check_sound.proofs.LibraryTypes.{string_name, message_spot, message_got}
 
 -- ---- no entry stands

@@ -5,15 +5,14 @@ use Rattle.jvm_model.specs.declared.values.Value.TheVariants as value
 use Rattle.jvm_model.specs.declared.values.Kind.TheVariants as kind
 use Rattle.jvm_model.specs.declared.values.InitState.TheVariants.{Idle, Running, Done, Erroneous}
 use Rattle.jvm_model.specs.declared.values.Location.TheVariants as place
-use Rattle.jvm_model.specs.declared.state.{EntryKind.EntryKind, EntryKind.TheVariants.Absent, EntryKind.TheVariants.InMethod, EntryKind.TheVariants.InClass}
+use Rattle.jvm_model.specs.declared.state.EntryKind.{EntryKind, TheVariants.Absent, TheVariants.InMethod, TheVariants.InClass}
 use Rattle.jvm_model.specs.declared.{state.Stage.Stage, instr.Instr.Instr, program.Program.Program, program.TestEntry.TestEntry}
 use Rattle.jvm_model.specs.declared.state.Stage.TheVariants.{First, Made, Built, SetUp, Called, Last}
 use Rattle.jvm_model.specs.declared.outcome.Next.TheVariants as step
 use Rattle.jvm_model.specs.World.{Object, World, size, at, make_object}
 use Rattle.jvm_model.specs.Access.{Access, done, read, write, bind}
 use Rattle.jvm_model.specs.Builtin.{throwable_class, stack_overflow_error, no_class_error}
-use Rattle.jvm_model.specs.Classes.{blank, instance_head, is_trivial, is_below}
-use Rattle.jvm_model.specs.{Kinds.class_of, Throwing.throws}
+use Rattle.jvm_model.specs.{Classes.blank, Classes.instance_head, Classes.is_trivial, Classes.is_below, Kinds.class_of, Throwing.throws}
 use Rattle.jvm_model.specs.Entries.{Entries, is_full, with_entry, class_entry, with_stack}
 use Rattle.jvm_model.specs.Rows.{Answer, answer, ready, begun, refused, begun_at, begin, once, using}
 use Rattle.jvm_model.specs.State.{State, Turn, next, ended, stuck_turn, test_at, or_first, thrown_at, raise, raised_in, with_entries}

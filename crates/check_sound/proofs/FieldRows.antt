@@ -11,9 +11,8 @@ use Rattle.jvm_model.specs.declared.instr.Instr.TheVariants as form
 use Rattle.jvm_model.specs.{World.World, World.size, Entries.Entries, Entries.with_stack, Library.builtin_defs, Library.builtin_classes, RowsFields.row_fields}
 use Rattle.jvm_model.specs.Builtin.{object_class, string_class, stream_class, builtin_count, null_pointer_exception}
 use Rattle.jvm_model.specs.Classes.{no_class, class_at, field_at, member, is_static, is_below, upwards, class_bound, plain_fields, layout_in, layout}
-use Rattle.jvm_model.specs.Lookup.{is_field, field_path_in, field_path, find_field}
+use Rattle.jvm_model.specs.{Lookup.is_field, Lookup.field_path_in, Lookup.field_path, Lookup.find_field, Narrow.narrowed, Access.Access, Access.write}
 use Rattle.jvm_model.specs.Rows.{Answer, constant_kind, on_object, goes_on, popping, answer}
-use Rattle.jvm_model.specs.{Narrow.narrowed, Access.Access, Access.write}
 use Rattle.check_sound.proofs.{Arguments.Argument, Ends.fault_typed, Thrown.builtin_is, Thrown.null_pointer_thrown, CallEffects.push}
 use Rattle.jvm_model.specs.Linked.{Linked, IsClass, count, IsField, IsKind, IsPlainField, IsFoundField, is_interface_at}
 use Rattle.jvm_model.proofs.{Interfaces.member-flat_map, BuiltinRules.builtin_class}

@@ -3,9 +3,8 @@ use Rattle.std.proofs.Common.{◌≡◌, ℕ, ◌<◌, List, [], ◌∷◌, true
 use Rattle.jvm_model.specs.declared.{values.Value.Value, values.Kind.Kind, values.Head.Head, program.Program.Program}
 use Rattle.jvm_model.specs.declared.values.Value.TheVariants as value
 use Rattle.jvm_model.specs.{World.World, World.size, Builtin.throwable_class, Classes.is_below, Kinds.class_of}
-use Rattle.type_frames.specs.declared.vtype.VType.{VType}
+use Rattle.type_frames.specs.{declared.vtype.VType.VType, Environment.Environment, Environment.made_at, Descriptors.types_of, StackEffect.is_that}
 use Rattle.type_frames.specs.declared.vtype.VType.TheVariants.{Top, Int, Long, Null, Object, UninitThis, Uninit}
-use Rattle.type_frames.specs.{Environment.Environment, Environment.made_at, Descriptors.types_of, StackEffect.is_that}
 use Rattle.type_frames.specs.TypedState.{kind_at, IsInRange, IsInstance, RefersTo, is_class_with, HasType, HaveTypes, HaveStackTypes, IsReferenceOf, IsDeclared, IsThrowable}
 use Rattle.check_sound.proofs.Tree.{Over, Alike}
 

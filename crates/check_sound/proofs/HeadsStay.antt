@@ -1,10 +1,9 @@
 -- The run of a typed tree takes no object away, and writes the head of none that stands.
 use Rattle.std.proofs.Common.{◌≡◌, ℕ, ◌<◌, subst, arith}
 use Rattle.jvm_model.specs.declared.values.Location.TheVariants as place
-use Rattle.jvm_model.specs.declared.program.Program.{Program}
+use Rattle.jvm_model.specs.{declared.program.Program.Program, State.State, Step.step}
 use Rattle.jvm_model.specs.World.{World, size, at, put, make_object, object_at}
 use Rattle.jvm_model.specs.Access.{Access, done, read, write, make, spend, run}
-use Rattle.jvm_model.specs.{State.State, Step.step}
 use Rattle.type_frames.specs.{Typing.IsTyped, TypedState.TypedWorld, TypedState.TypedState}
 use Rattle.check_sound.proofs.Tree.{Tree, typed_done, typed_read, typed_write, typed_mark, typed_make, typed_spend, typed_known, Over, Alike}
 use Rattle.check_sound.proofs.{Grow.over_itself, Grow.alike_over, Grow.alike_back, Ends.TurnsTo}

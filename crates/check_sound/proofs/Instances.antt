@@ -8,8 +8,7 @@ use Rattle.jvm_model.specs.{Builtin.object_class, Linked.Linked, Linked.IsClass,
 use Rattle.jvm_model.specs.Classes.{class_at, is_below, is_interface, member, no_class, upwards}
 use Rattle.jvm_model.proofs.Upwards.{below_same, upwards_root, upwards_step}
 use Rattle.et_base.specs.Names.{is_class_name, is_class_entry_name, starts_array, is_field_descriptor}
-use Rattle.type_frames.specs.declared.vtype.VType.TheVariants.{Object}
-use Rattle.type_frames.specs.{Descriptors.name_of, Descriptors.kind_name, TypedState.IsInstance, StackEffect.is_that}
+use Rattle.type_frames.specs.{declared.vtype.VType.TheVariants.Object, Descriptors.name_of, Descriptors.kind_name, TypedState.IsInstance, StackEffect.is_that}
 use Rattle.type_frames.specs.Assign.{class_named, takes_any, extends, class_fits, element_fits, is_array, object_fits}
 use Rattle.et_base.proofs.Texts.{units_true}
 use Rattle.type_frames.proofs.AssignLaws.{class_name_plain, first_named, interface_takes, assignable_itself}

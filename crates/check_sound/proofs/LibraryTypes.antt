@@ -17,11 +17,10 @@ use Rattle.jvm_model.specs.Classes.{no_class, no_method, class_at, field_at, met
 use Rattle.jvm_model.specs.Linked.{Linked, IsClass, IsKind}
 use Rattle.jvm_model.specs.Natives.{NativeGroup, of_object, of_string, of_builder, of_system, of_stream, of_files, of_env, of_throwable, native_group}
 use Rattle.jvm_model.proofs.{BuiltinRules.builtin_class, BuiltinRules.builtin_field, BuiltinRules.class_keeps, BuiltinRules.method_keeps, Upwards.below_same}
-use Rattle.type_frames.specs.declared.vtype.{VType.VType, VType.TheVariants.Int, VType.TheVariants.Long, VType.TheVariants.Object}
-use Rattle.type_frames.specs.{Frames.same, Assign.assignable}
-use Rattle.type_frames.specs.Descriptors.{types_of, name_of, kind_name}
-use Rattle.type_frames.proofs.AssignLaws.{assignable_trans}
+use Rattle.type_frames.specs.declared.vtype.VType.{VType, TheVariants.Int, TheVariants.Long, TheVariants.Object}
+use Rattle.type_frames.specs.{Frames.same, Assign.assignable, Descriptors.types_of, Descriptors.name_of, Descriptors.kind_name}
 use Rattle.type_frames.specs.TypedState.{kind_at, IsInstance, RefersTo, IsDeclared}
+use Rattle.type_frames.proofs.AssignLaws.{assignable_trans}
 use Rattle.check_sound.proofs.{Tree.IsSpot, Held.same_is, Arrive.counted_at, Arrive.all_at_index, Ready.Takes, Ready.operand_types}
 use Rattle.check_sound.proofs.Instances.{takes_every, instance_below, instance_itself, below_is}
 use Rattle.check_sound.proofs.Thrown.{under_object, builtin_is, above}

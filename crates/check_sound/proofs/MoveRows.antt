@@ -6,8 +6,8 @@ use Rattle.jvm_model.specs.{Builtin.null_pointer_exception, Builtin.string_class
 use Rattle.jvm_model.specs.{Classes.method_at, Linked.Linked, Linked.IsLiteral, Rows.goes_on, World.World, Entries.Entries, Entries.with_stack}
 use Rattle.jvm_model.specs.declared.values.Kind.TheVariants as kind
 use Rattle.jvm_model.specs.declared.{instr.Sort.Sort, instr.Instr.Instr, values.Value.Value, program.Program.Program}
-use Rattle.type_frames.specs.{Descriptors.name_of, Environment.Environment, Frames.same, Frames.top_of, Typing.IsTyped}
 use Rattle.type_frames.specs.declared.stack_effect.{OperandConstraint.OperandConstraint, Reading.Reading}
+use Rattle.type_frames.specs.declared.stack_effect.OperandConstraint.TheVariants.{Fits, One, Half, Ref}
 use Rattle.type_frames.specs.Rules.{meets, is_ref, cut_long, set_one, is_read, all_read}
 use Rattle.type_frames.specs.TypedState.{IsInRange, IsInstance, RefersTo, HasType, HaveTypes}
 use Rattle.check_sound.proofs.{Wide.wide_before, Instances.instance_itself, Grow.Ranged, Ends.fault_typed, Thrown.builtin_is, Thrown.null_pointer_thrown}
@@ -15,8 +15,7 @@ use Rattle.jvm_model.specs.declared.values.Value.TheVariants as value
 use Rattle.jvm_model.specs.declared.instr.Instr.TheVariants as form
 use Rattle.jvm_model.specs.declared.instr.Sort.TheVariants as sort
 use Rattle.jvm_model.specs.RowsMoves.{row_moves, is_long, loaded, stored}
-use Rattle.type_frames.specs.declared.stack_effect.OperandConstraint.TheVariants.{Fits, One, Half, Ref}
-use Rattle.type_frames.specs.declared.vtype.VType.{VType}
+use Rattle.type_frames.specs.{declared.vtype.VType.VType, Descriptors.name_of, Environment.Environment, Frames.same, Frames.top_of, Typing.IsTyped}
 use Rattle.type_frames.specs.declared.vtype.VType.TheVariants.{Top, Int, Long, Null, Object, UninitThis, Uninit}
 use Rattle.type_frames.specs.StackEffect.{sides, two, long_need, setting, reading}
 use Rattle.check_sound.proofs.Tree.{typed_done}

@@ -20,9 +20,8 @@ use Rattle.jvm_model.specs.NativesString.{hash_of, text_index, answers_part, com
 use Rattle.jvm_model.specs.NativesOutside.{one_text, two_texts, stepped, upper_int, changes_property, native_system, prints_string, on_printed, line_feed, native_print, native_files, native_env}
 use Rattle.jvm_model.specs.Natives.{NativeGroup, of_object, of_string, of_builder, of_system, of_stream, of_files, of_env, of_throwable, native_group, native_of_group, row_native}
 use Rattle.jvm_model.proofs.Locations.{size_make}
-use Rattle.type_frames.specs.declared.vtype.VType.{VType}
+use Rattle.type_frames.specs.{declared.vtype.VType.VType, Descriptors.name_of, Typing.IsTyped}
 use Rattle.type_frames.specs.declared.vtype.VType.TheVariants as vtype
-use Rattle.type_frames.specs.{Descriptors.name_of, Typing.IsTyped}
 use Rattle.type_frames.specs.TypedState.{kind_at, IsInRange, IsInstance, RefersTo, IsThrowable}
 use Rattle.check_sound.proofs.Tree.{Tree, typed_done, typed_read, typed_write, typed_make, typed_spend, typed_known}
 use Rattle.check_sound.proofs.{TreeRuns.tree_bind, Grow.Ranged, WorldKept.spot_over, Onward.grows_itself, Onward.grows_make, Blank.blank_new}

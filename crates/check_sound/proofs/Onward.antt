@@ -1,15 +1,13 @@
 -- What is typed of entries stays so in a world that goes on.
 use Rattle.std.proofs.Common.{◌≡◌, ℕ, ◌<◌, List, [], ◌∷◌, ◌++◌, length, drop, false, nat_eq, nat_le, get_or, Option, Some, None, refl, sym, ◌∙◌, ap, subst, arith, inl, inr}
 use Rattle.std.specs.{List.AllByRecursion, List.IsDistinct}
-use Rattle.std.proofs.lemmas.Map.Keys.{IsDistinct-cons}
+use Rattle.std.proofs.lemmas.{Map.Keys.IsDistinct-cons, Bool.cases_Bool, Bool.eqb-true, Bool.leb-false}
 use Rattle.std.specs.Prelude.{flat_map}
-use Rattle.std.proofs.lemmas.Bool.{cases_Bool, eqb-true, leb-false}
-use Rattle.jvm_model.specs.declared.values.{Value.Value, InitState.TheVariants.Idle, InitState.TheVariants.Running}
+use Rattle.jvm_model.specs.declared.{values.Value.Value, values.InitState.TheVariants.Idle, values.InitState.TheVariants.Running, state.EntryKind.EntryKind}
 use Rattle.jvm_model.specs.declared.values.Location.TheVariants as place
-use Rattle.jvm_model.specs.declared.state.{EntryKind.EntryKind, EntryKind.TheVariants.Absent, EntryKind.TheVariants.InMethod, EntryKind.TheVariants.InClass}
-use Rattle.jvm_model.specs.declared.{instr.Instr.Instr, program.Program.Program}
+use Rattle.jvm_model.specs.declared.state.EntryKind.TheVariants.{Absent, InMethod, InClass}
+use Rattle.jvm_model.specs.{declared.instr.Instr.Instr, declared.program.Program.Program, Classes.method_at, Classes.is_trivial}
 use Rattle.jvm_model.specs.World.{Object, World, at, put, make_object, same}
-use Rattle.jvm_model.specs.Classes.{method_at, is_trivial}
 use Rattle.jvm_model.specs.Entries.{Entry, Entries, entry_limit, class_entry, with_entry, is_full, all_entries}
 use Rattle.jvm_model.proofs.Locations.{same_false, at_put_other, at_put_same}
 use Rattle.type_frames.specs.{Environment.environment_of, StackEffect.sides, Typing.IsTyped}

@@ -7,11 +7,10 @@ use Rattle.jvm_model.specs.declared.values.Location.TheVariants as place
 use Rattle.jvm_model.specs.{World.World, World.size, Access.Access, Access.read, Builtin.null_pointer_exception, Classes.literal_at}
 use Rattle.jvm_model.specs.Linked.{Linked, IsKind}
 use Rattle.jvm_model.specs.Rows.{Answer, answer, popping, on_int, on_long, on_object, on_reference, with_kind, on_text, constant_kind}
-use Rattle.type_frames.specs.declared.{vtype.VType.VType, stack_effect.OperandConstraint.OperandConstraint}
+use Rattle.type_frames.specs.{declared.vtype.VType.VType, declared.stack_effect.OperandConstraint.OperandConstraint, Environment.Environment}
 use Rattle.type_frames.specs.declared.vtype.VType.TheVariants.{Top, Int, Long, Null, Object, UninitThis, Uninit}
 use Rattle.type_frames.specs.declared.stack_effect.OperandConstraint.TheVariants.{Fits, One, Half, Ref, Raw, Small, Array, Never}
-use Rattle.type_frames.specs.{Environment.Environment, Rules.meets, Rules.meet_all}
-use Rattle.type_frames.specs.TypedState.{kind_at, IsInstance, RefersTo, HaveStackTypes}
+use Rattle.type_frames.specs.{Rules.meets, Rules.meet_all, TypedState.kind_at, TypedState.IsInstance, TypedState.RefersTo, TypedState.HaveStackTypes}
 use Rattle.check_sound.proofs.{Tree.head_at, Tree.Tree, Tree.typed_done, Tree.typed_read, Held.Is, Held.Held, Held.IsShort, Held.is_fits}
 
 -- The needs that are still to be met, the types that are still there, what is left of them in the end, and the operands.

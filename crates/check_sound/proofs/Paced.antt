@@ -1,15 +1,13 @@
 -- How many locations a program of accesses touches, set against what it costs, and which statics and states are among them.
 use Rattle.std.proofs.Common.{◌≡◌, ◌⊎◌, ℕ, ℤ, suc, ◌+◌, ◌-◌, ◌*◌, ◌^◌, ◌≤◌, List, [], ◌∷◌, ◌++◌, length, Bool, true, false, cond, Option, Some, None, All, refl, sym, ◌∙◌, ap, subst, arith, inl, inr}
-use Rattle.std.proofs.lemmas.List.{length-append}
-use Rattle.std.proofs.lemmas.List.Elements.{All-nil, All-cons, All-append}
+use Rattle.std.proofs.lemmas.List.{length-append, Elements.All-nil, Elements.All-cons, Elements.All-append}
 use Rattle.jvm_model.specs.declared.{values.Value.Value, values.Kind.Kind, values.Location.Location, values.Touch.Touch, library.Native.Native}
 use Rattle.jvm_model.specs.declared.values.Value.TheVariants as value
 use Rattle.jvm_model.specs.declared.values.Location.TheVariants as place
-use Rattle.jvm_model.specs.declared.{outcome.Next.Next, program.Program.Program}
+use Rattle.jvm_model.specs.{declared.outcome.Next.Next, declared.program.Program.Program, Builtin.null_pointer_exception, Entries.Entries}
 use Rattle.jvm_model.specs.declared.outcome.Next.TheVariants.{Go, Fault, Raise, Enter, Leave, Over}
 use Rattle.jvm_model.specs.World.{World, Object, Content, size, at, put, make_object}
 use Rattle.jvm_model.specs.Access.{Access, done, read, write, make, spend, bind, run, read_of, write_of, fields_made, elems_made, text_made, made}
-use Rattle.jvm_model.specs.{Builtin.null_pointer_exception, Entries.Entries}
 use Rattle.jvm_model.specs.Classes.{method_at, is_private, is_static, layout, literal_at}
 use Rattle.jvm_model.specs.Rows.{Answer, answer, stuck_row, popping, on_int, on_long, on_object, on_reference, with_kind, on_text, constant_kind}
 use Rattle.jvm_model.proofs.Locations.{at_put_other}

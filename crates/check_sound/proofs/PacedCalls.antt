@@ -4,9 +4,8 @@ use Rattle.std.proofs.Common.{◌≡◌, ◌⊎◌, ℕ, ◌+◌, ◌≤◌, Lis
 use Rattle.std.specs.Prelude.{flat_map}
 use Rattle.std.specs.{List.list_any, Str.bytes_eq}
 use Rattle.std.proofs.lemmas.Bool.{and_parts, not-true}
-use Rattle.jvm_model.specs.declared.{values.Value.Value, values.Kind.Kind, instr.Instr.Instr, library.Native.Native}
+use Rattle.jvm_model.specs.declared.{values.Value.Value, values.Kind.Kind, instr.Instr.Instr, library.Native.Native, program.Body.Body, program.Program.Program}
 use Rattle.jvm_model.specs.declared.instr.Instr.TheVariants as form
-use Rattle.jvm_model.specs.declared.program.{Body.Body, Program.Program}
 use Rattle.jvm_model.specs.{Access.Access, Entries.Entries, Entries.is_full, Kinds.class_of, Linked.Linked, Rows.Answer, Classes.implements}
 use Rattle.jvm_model.specs.Builtin.{class_change_error, abstract_method_error, stack_overflow_error}
 use Rattle.jvm_model.specs.Classes.{class_at, method_at, is_private, is_static, member, upwards, init_name}

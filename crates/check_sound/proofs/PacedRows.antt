@@ -7,23 +7,22 @@ use Rattle.jvm_model.specs.declared.values.Value.TheVariants as value
 use Rattle.jvm_model.specs.declared.values.Kind.TheVariants as kind
 use Rattle.jvm_model.specs.declared.values.InitState.TheVariants.{Idle, Running, Done, Erroneous}
 use Rattle.jvm_model.specs.declared.values.Location.TheVariants as place
-use Rattle.jvm_model.specs.declared.instr.{Op.Op, Conv.Conv, Cell.Cell, Instr.Instr}
+use Rattle.jvm_model.specs.declared.{instr.Op.Op, instr.Conv.Conv, instr.Cell.Cell, instr.Instr.Instr, state.EntryKind.EntryKind}
 use Rattle.jvm_model.specs.declared.instr.Conv.TheVariants as conv
 use Rattle.jvm_model.specs.declared.instr.Instr.TheVariants as form
-use Rattle.jvm_model.specs.declared.state.{EntryKind.EntryKind, EntryKind.TheVariants.Absent, EntryKind.TheVariants.InMethod, EntryKind.TheVariants.InClass}
-use Rattle.jvm_model.specs.declared.program.Program.{Program}
+use Rattle.jvm_model.specs.declared.state.EntryKind.TheVariants.{Absent, InMethod, InClass}
+use Rattle.jvm_model.specs.{declared.program.Program.Program, Classes.method_at, Classes.field_at, Classes.is_trivial}
 use Rattle.jvm_model.specs.Access.{Access, done, read, write, bind}
 use Rattle.jvm_model.specs.Builtin.{no_class_error, stack_overflow_error, arithmetic_exception, array_store_exception, class_cast_exception, array_index_exception}
-use Rattle.jvm_model.specs.{Classes.method_at, Classes.field_at, Classes.is_trivial, Kinds.class_of, Kinds.element_kind, Kinds.kind_fits}
-use Rattle.jvm_model.specs.{Descriptors.return_type, Linked.Linked, Narrow.narrowed, RowsFields.row_fields, Step.row_throw}
+use Rattle.jvm_model.specs.{Kinds.class_of, Kinds.element_kind, Kinds.kind_fits, Descriptors.return_type, Linked.Linked, Narrow.narrowed, RowsFields.row_fields}
+use Rattle.jvm_model.specs.{Step.row_throw, RowsStatics.read_static, RowsStatics.write_static, RowsStatics.row_statics}
 use Rattle.jvm_model.specs.Entries.{Entries, with_stack, with_entry, class_entry, is_full, popped_entry}
 use Rattle.jvm_model.specs.Rows.{Answer, popping, on_int, on_long, on_object, constant_kind, ready, begun, refused, begun_at, begin, once, using}
 use Rattle.jvm_model.specs.RowsMoves.{is_long, loaded, stored, two_under_long, two_under_two, row_moves}
 use Rattle.jvm_model.specs.RowsArith.{divides, shifts, unless_zero, two_ints, two_longs, long_by_int, converted, increased, row_arith}
 use Rattle.jvm_model.specs.RowsBranches.{holds, same_reference, is_null, flag_is, goes_if, row_branches}
-use Rattle.jvm_model.specs.RowsStatics.{read_static, write_static, row_statics}
-use Rattle.jvm_model.specs.RowsArrays.{on_array, in_range, holds_references, checked, stored_in, loaded_from, row_arrays}
 use Rattle.jvm_model.specs.RowsCasts.{cast_to, cast, tested, row_casts}
+use Rattle.jvm_model.specs.RowsArrays.{on_array, in_range, holds_references, checked, stored_in, loaded_from, row_arrays}
 use Rattle.jvm_model.specs.{RowsReturn.handed_on, RowsReturn.hands_on, RowsReturn.row_return, Raising.handler_for, Raising.handled, Raising.row_raise}
 use Rattle.check_sound.proofs.Paced.{Limits, either, paced_done, paced_read, paced_write, PacedRow, popping-paced, on_int-paced, on_long-paced, on_object-paced, on_reference-paced}
 use Rattle.check_sound.proofs.Light.{light, null_light}

@@ -7,11 +7,10 @@ use Rattle.jvm_model.specs.declared.outcome.Next.TheVariants.{Go, Fault, Raise, 
 use Rattle.jvm_model.specs.declared.instr.Instr.TheVariants as form
 use Rattle.jvm_model.specs.declared.state.Stage.TheVariants.{First, Made, Built, SetUp, Called, Last}
 use Rattle.jvm_model.specs.declared.state.EntryKind.TheVariants.{Absent, InMethod, InClass}
-use Rattle.jvm_model.specs.declared.program.{Program.Program, MethodRec.MethodRec}
-use Rattle.jvm_model.specs.{World.World, Entries.Entries, Initialise.row_finish, Initialise.row_fail, Library.builtin_defs, Library.builtin_methods}
-use Rattle.jvm_model.specs.{Access.Access, Access.bind, Access.run, Natives.NativeGroup, Natives.of_object, Natives.native_group}
+use Rattle.jvm_model.specs.{declared.program.Program.Program, declared.program.MethodRec.MethodRec, World.World, Entries.Entries}
+use Rattle.jvm_model.specs.{Initialise.row_finish, Initialise.row_fail, Library.builtin_defs, Library.builtin_methods, Access.Access, Access.bind, Access.run}
+use Rattle.jvm_model.specs.{Natives.NativeGroup, Natives.of_object, Natives.native_group, Linked.Linked, Raising.row_raise}
 use Rattle.jvm_model.specs.Classes.{method_at, field_at, form_at, is_private, is_static}
-use Rattle.jvm_model.specs.{Linked.Linked, Raising.row_raise}
 use Rattle.jvm_model.specs.{Rows.Answer, Rows.answer, Rows.stuck_row, State.State, State.Turn, State.with_entries}
 use Rattle.jvm_model.specs.Step.{after_row, entered, row_here, acts, step, cost, touch}
 use Rattle.jvm_model.proofs.BuiltinRules.{method_keeps}

@@ -3,8 +3,7 @@ use Rattle.std.proofs.Common.{◌≡◌, ℕ, zero, suc, ◌+◌, ◌-◌, ◌*�
 use Rattle.std.proofs.lemmas.List.Elements.{All-nil, All-append}
 use Rattle.jvm_model.specs.declared.{state.EntryKind.TheVariants.Absent, state.EntryKind.TheVariants.InMethod, program.Program.Program}
 use Rattle.jvm_model.specs.declared.values.Location.TheVariants as place
-use Rattle.jvm_model.specs.{World.World, World.at, Linked.Linked}
-use Rattle.jvm_model.specs.{Access.Ran, Access.done, Access.run, Step.step, Step.cost, Step.touch}
+use Rattle.jvm_model.specs.{World.World, World.at, Linked.Linked, Access.Ran, Access.done, Access.run, Step.step, Step.cost, Step.touch}
 use Rattle.jvm_model.specs.State.{State, Turn, next, ended, stuck_turn, started}
 use Rattle.jvm_model.specs.Suite.{End, finished, stuck, out_of_steps, after_step, whole, tree, Given, one_test}
 use Rattle.jvm_model.proofs.{Binds.run_bind, Budgets.step_costs}

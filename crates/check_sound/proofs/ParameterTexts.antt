@@ -1,10 +1,8 @@
 -- What the parameters of a method descriptor begin with: a base type, an L or a bracket.
 use Rattle.std.proofs.Common.{◌≡◌, ℕ, zero, suc, ◌+◌, ◌<◌, List, [], ◌∷◌, length, take, drop, Bool, true, false, not, nat_eq, nat_le, nat_lt, Option, Some, None, is_some, option_map, option_and_then, position, if◌then◌else◌, refl, sym, ◌∙◌, ap, subst, arith, inl, inr, get_or}
-use Rattle.std.proofs.lemmas.Bool.{eqb-true, cases_Bool, not-true, not-false}
-use Rattle.std.proofs.lemmas.List.Quantifiers.{position-Some}
+use Rattle.std.proofs.lemmas.{Bool.eqb-true, Bool.cases_Bool, Bool.not-true, Bool.not-false, List.Quantifiers.position-Some}
 use Rattle.et_base.specs.Names.{is_base, after_class, after_element, after_type, argument, arguments, after_close, closed, is_method_descriptor, argument_units, is_class_name, is_return, units_of_type}
-use Rattle.jvm_model.specs.{Classes.member, Linked.first_or, Scanning.type_length}
-use Rattle.jvm_model.specs.Descriptors.{at_type, types_in, parameters}
+use Rattle.jvm_model.specs.{Classes.member, Linked.first_or, Scanning.type_length, Descriptors.at_type, Descriptors.types_in, Descriptors.parameters}
 use Rattle.jvm_model.proofs.DescriptorLemmas.{splits}
 
 abbrev pub first_units : List ℕ

@@ -2,8 +2,7 @@
 use Rattle.std.proofs.Common.{◌≡◌, ℕ, suc, ◌<◌, List, [], ◌∷◌, ◌++◌, length, map, Bool, true, false, not, ◌&&◌, cond, nat_eq, nat_lt, nat_le, Option, Some, None, IfSome, slice_get, All, refl, sym, ◌∙◌, ap, subst, arith}
 use Rattle.std.specs.Prelude.{flat_map}
 use Rattle.std.specs.List.{list_any, IsDistinct}
-use Rattle.std.proofs.lemmas.{Bool.and_parts, Bool.or_left, Bool.or_right, Bool.eq-eqb, Option.same_Some}
-use Rattle.std.proofs.lemmas.List.Elements.{All-nil}
+use Rattle.std.proofs.lemmas.{Bool.and_parts, Bool.or_left, Bool.or_right, Bool.eq-eqb, Option.same_Some, List.Elements.All-nil}
 use Rattle.jvm_model.specs.declared.values.{Value.Value, Kind.Kind}
 use Rattle.jvm_model.specs.declared.values.Value.TheVariants as value
 use Rattle.jvm_model.specs.declared.values.Kind.TheVariants as kind

@@ -1,6 +1,6 @@
 -- What the states have that a test comes to.
 use Rattle.std.proofs.Common.{◌≡◌, ◌⊎◌, ℕ, ◌+◌, ◌-◌, ◌<◌, ◌≤◌, List, [], ◌∷◌, length, Bool, true, false, ◌&&◌, cond, nat_eq, nat_le, Option, Some, None, IfSome, refl, sym, ◌∙◌, ap, subst, arith, inl, inr}
-use Rattle.std.proofs.lemmas.Bool.{cases_Bool, and_parts, leb-true, eqb-true}
+use Rattle.std.proofs.lemmas.{Bool.cases_Bool, Bool.and_parts, Bool.leb-true, Bool.eqb-true, List.length-append, Option.same_Some}
 use Rattle.jvm_model.specs.declared.{values.Value.Value, state.EntryKind.EntryKind, state.EntryKind.TheVariants.InMethod, instr.Instr.Instr, instr.Sort.Sort}
 use Rattle.jvm_model.specs.declared.values.Value.TheVariants as value
 use Rattle.jvm_model.specs.declared.instr.Instr.TheVariants as form
@@ -13,7 +13,6 @@ use Rattle.jvm_model.specs.{Reached.Reaches, Reached.begins, Reached.steps, Stat
 use Rattle.type_frames.specs.declared.vtype.{VType.VType, VType.TheVariants.Top, VType.TheVariants.Int, VType.TheVariants.Long, VType.TheVariants.Object}
 use Rattle.type_frames.specs.declared.stack_effect.{StackEffect.StackEffect, OperandConstraint.TheVariants.One}
 use Rattle.std.specs.Prelude.{slice_index_or}
-use Rattle.std.proofs.lemmas.{List.length-append, Option.same_Some}
 use Rattle.type_frames.specs.{Frames.Slots, Frames.same, Environment.Environment, Descriptors.types_of, Descriptors.class_name, Typing.IsTyped}
 use Rattle.type_frames.specs.StackEffect.{sides, two, long_need, const_type}
 use Rattle.type_frames.specs.TypedState.{TypedWorld, TypedState, IsBelow}
@@ -21,8 +20,7 @@ use Rattle.type_frames.proofs.Started.{started_law}
 use Rattle.check_sound.specs.{StepLaw.StaysTyped, ReachLaw.most_operands, ReachLaw.HasStackLimits, ReachLaw.puts, ReachLaw.native_puts}
 use Rattle.check_sound.proofs.{TreeRuns.alike_itself, TreeRuns.tree_leaves, CallEffects.values_few, CallEffects.on_stack_length, RaiseRows.beneath}
 use Rattle.check_sound.proofs.Ready.{TypedEntries, stub, Rest, Takes, NativeCall, Enters, Ends, Ready, ready, here, sides_at, names_form}
-use Rattle.check_sound.proofs.ReturnRows.{SortOf, sort_of, back_room}
-use Rattle.check_sound.proofs.{ParameterTexts.IsText, DeclaredValues.text_of_field}
+use Rattle.check_sound.proofs.{ReturnRows.SortOf, ReturnRows.sort_of, ReturnRows.back_room, ParameterTexts.IsText, DeclaredValues.text_of_field}
 use Rattle.check_sound.proofs.LibraryTypes.{takes_of, result_of, native_takes, native_gives}
 use Rattle.check_sound.proofs.WholeStep.{Groups, here-typed, stays_typed}
 

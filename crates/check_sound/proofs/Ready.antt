@@ -3,8 +3,7 @@
 use Rattle.std.proofs.Common.{◌≡◌, ℕ, suc, ◌+◌, ◌<◌, ◌≤◌, List, [], ◌∷◌, ◌++◌, length, drop, Bool, true, false, cond, nat_eq, Option, Some, None, IfSome, slice_get, refl, sym, ◌∙◌, ap, subst, arith, inl, inr, All}
 use Rattle.std.specs.Prelude.{flat_map, reverse}
 use Rattle.std.specs.List.{list_any, list_all, IsDistinct}
-use Rattle.std.proofs.lemmas.Bool.{and_parts, leb-true, or_cases, eqb-true}
-use Rattle.std.proofs.lemmas.List.Elements.{All-nil, All-cons}
+use Rattle.std.proofs.lemmas.{Bool.and_parts, Bool.leb-true, Bool.or_cases, Bool.eqb-true, List.Elements.All-nil, List.Elements.All-cons}
 use Rattle.jvm_model.specs.declared.values.{Value.Value, InitState.TheVariants.Running}
 use Rattle.jvm_model.specs.declared.values.Value.TheVariants as value
 use Rattle.jvm_model.specs.declared.values.Location.TheVariants as place
@@ -25,8 +24,7 @@ use Rattle.type_frames.specs.{Frames.Slots, Given.given_frames, Descriptors.type
 use Rattle.type_frames.specs.Environment.{Environment, environment_of, is_target, leads}
 use Rattle.type_frames.specs.Rules.{after, fits_at, all_read, can_set}
 use Rattle.type_frames.specs.TypedState.{IsInRange, RefersTo, Stands, Goes, Waits, IsPushedBy, IsTop, IsBelow, AllBelow, called_by, class_begun, values_of, IsThrowable}
-use Rattle.check_sound.proofs.Tree.{Tree, typed_done, Over}
-use Rattle.check_sound.proofs.{Grow.Ranged, Held.Locals, Held.Held, Operands.Operands}
+use Rattle.check_sound.proofs.{Tree.Tree, Tree.typed_done, Tree.Over, Grow.Ranged, Held.Locals, Held.Held, Operands.Operands}
 use Rattle.check_sound.proofs.Arrive.{Kept, has_number, kept_at, is_body, form_here, arrived_at, arrived_next, placed_at, leads_target}
 
 -- ---- entries

@@ -1,7 +1,7 @@
 -- The rows of returns: the entry is popped, and a value goes to the frame below.
 use Rattle.std.proofs.Common.{◌≡◌, ℕ, ◌+◌, ◌-◌, ◌≤◌, List, [], ◌∷◌, ◌++◌, length, drop, Bool, true, ◌&&◌, nat_le, Option, Some, None, IfSome, slice_get, refl, sym, ◌∙◌, ap, subst, arith}
 use Rattle.std.proofs.lemmas.{Bool.and_parts, Bool.leb-true, List.length-drop, Option.same_Some}
-use Rattle.check_sound.proofs.{Grow.Ranged, Tree.typed_done}
+use Rattle.check_sound.proofs.{Grow.Ranged, Tree.typed_done, Held.Is, Held.Locals, Held.Held, Operands.Operands, Operands.popping-fits, Operands.popping-long}
 use Rattle.jvm_model.specs.declared.{values.Value.Value, program.Body.Body, program.Program.Program, program.Placed.Placed}
 use Rattle.jvm_model.specs.declared.values.Value.TheVariants as value
 use Rattle.jvm_model.specs.declared.state.{EntryKind.EntryKind, EntryKind.TheVariants.Absent, EntryKind.TheVariants.InMethod, EntryKind.TheVariants.InClass}
@@ -16,7 +16,6 @@ use Rattle.type_frames.specs.declared.vtype.{VType.VType, VType.TheVariants.Int,
 use Rattle.type_frames.specs.{Descriptors.types_of, Environment.Environment, Environment.environment_of, Rules.turned, Typing.IsTyped}
 use Rattle.type_frames.specs.StackEffect.{sides, on_stack, result_types, return_typed}
 use Rattle.type_frames.specs.TypedState.{IsInRange, Waits, IsTop, IsBelow, called_by}
-use Rattle.check_sound.proofs.{Held.Is, Held.Locals, Held.Held, Operands.Operands, Operands.popping-fits, Operands.popping-long}
 use Rattle.check_sound.proofs.{Arrive.has_number, Arrive.kept_at, Arrive.arrived_next, RaiseRows.Beneath, RaiseRows.beneath, RaiseRows.none_typed}
 use Rattle.check_sound.proofs.Ready.{TypedEntries, stub, Rest, IsEntry, closed, HasPlain, Ends, Row, Ready, here, rest, operands}
 use Rattle.check_sound.proofs.CallEffects.{values_few, on_stack_length, call_of, Result, narrowed_plain, narrowed_range, push}

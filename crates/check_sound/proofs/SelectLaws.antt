@@ -15,8 +15,7 @@ use Rattle.std.proofs.lemmas.List.Folds.{list_any-append}
 use Rattle.jvm_model.proofs.Interfaces.{member_first, none_listed, member-flat_map, member-first_mentions, reached}
 use Rattle.jvm_model.proofs.{Options.or_else_cases, BuiltinRules.class_keeps}
 use Rattle.jvm_model.proofs.Upwards.{superclass_is, member_class, upwards_step, below_same}
-use Rattle.type_frames.specs.declared.vtype.VType.TheVariants.{Object}
-use Rattle.type_frames.specs.{Descriptors.name_of, Descriptors.kind_name, Assign.assignable, TypedState.IsInstance}
+use Rattle.type_frames.specs.{declared.vtype.VType.TheVariants.Object, Descriptors.name_of, Descriptors.kind_name, Assign.assignable, TypedState.IsInstance}
 use Rattle.et_base.proofs.Texts.{units_true}
 use Rattle.type_frames.proofs.AssignLaws.{assignable_trans}
 use Rattle.check_sound.proofs.{Ready.IsThrown, Thrown.builtin_is, Thrown.abstract_thrown, Thrown.class_change_thrown}

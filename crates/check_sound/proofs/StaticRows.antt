@@ -1,8 +1,7 @@
 -- The rows of getstatic and putstatic.
 use Rattle.std.proofs.Common.{ℕ, List, [], ◌∷◌, refl, sym, subst, append-nil}
 use Rattle.jvm_model.specs.declared.instr.Instr.TheVariants as form
-use Rattle.jvm_model.specs.declared.program.Program.{Program}
-use Rattle.jvm_model.specs.{World.World, Entries.Entries, Classes.field_at}
+use Rattle.jvm_model.specs.{declared.program.Program.Program, World.World, Entries.Entries, Classes.field_at}
 use Rattle.jvm_model.specs.RowsStatics.{row_statics, read_static, write_static}
 use Rattle.type_frames.specs.declared.stack_effect.OperandConstraint.{OperandConstraint}
 use Rattle.type_frames.specs.{Descriptors.types_of, StackEffect.sides, StackEffect.needs_of, Typing.IsTyped}

@@ -3,8 +3,7 @@ use Rattle.std.proofs.Common.{◌≡◌, ℕ, ◌<◌, List, [], ◌∷◌, leng
 use Rattle.std.specs.Prelude.{codes}
 use Rattle.std.proofs.lemmas.Bool.{or_right}
 use Rattle.jvm_model.specs.declared.program.{Program.Program, ClassRec.ClassRec}
-use Rattle.jvm_model.specs.Builtin.{object_class, throwable_class, builtin_count}
-use Rattle.jvm_model.specs.{Library.builtin_defs, Library.builtin_classes, Linked.Linked}
+use Rattle.jvm_model.specs.{Builtin.object_class, Builtin.throwable_class, Builtin.builtin_count, Library.builtin_defs, Library.builtin_classes, Linked.Linked}
 use Rattle.jvm_model.specs.Classes.{no_class, class_at, is_below, upwards, member}
 use Rattle.jvm_model.proofs.{BuiltinRules.enough_classes, BuiltinRules.builtin_class, Upwards.upwards_step, Upwards.upwards_root, Upwards.below_same}
 use Rattle.type_frames.specs.Descriptors.{name_of}

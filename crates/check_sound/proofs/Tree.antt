@@ -4,11 +4,9 @@ use Rattle.std.specs.Prelude.{◌≡◌, ℕ, ◌<◌, ◌≤◌, length, get_or
 use Rattle.jvm_model.specs.declared.values.{Value.TheVariants.Null, Base.Base, Head.Head, InitState.InitState, Location.Location}
 use Rattle.jvm_model.specs.declared.values.Kind.TheVariants as kind
 use Rattle.jvm_model.specs.declared.values.Location.TheVariants as place
-use Rattle.jvm_model.specs.declared.program.Program.{Program}
+use Rattle.jvm_model.specs.{declared.program.Program.Program, Classes.field_at, Classes.member, Classes.layout, Linked.IsField, Linked.IsKind, View.keys}
 use Rattle.jvm_model.specs.World.{Object, World, Content, size, at, look, object_at, put, make_object}
 use Rattle.jvm_model.specs.Access.{Access, done, read, write, make, spend, Ran}
-use Rattle.jvm_model.specs.Classes.{field_at, member, layout}
-use Rattle.jvm_model.specs.{Linked.IsField, Linked.IsKind, View.keys}
 use Rattle.type_frames.specs.TypedState.{kind_at, IsDeclared, element_text, TypedWorld}
 
 abbrev pub head_at : World → ℕ → Head

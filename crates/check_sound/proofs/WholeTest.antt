@@ -3,16 +3,14 @@ use Rattle.std.proofs.Common.{◌≡◌, ℕ, zero, suc, ◌-◌, ◌<◌, ◌�
 use Rattle.std.specs.Prelude.{codes}
 use Rattle.std.specs.{List.list_any, Str.bytes_eq}
 use Rattle.std.proofs.lemmas.Bool.{and_parts, or_cases, or_right, eqb-true, leb-true}
-use Rattle.std.proofs.lemmas.List.{length-map}
-use Rattle.std.proofs.{Math.ListN.get_or-map, lemmas.List.Elements.All-nil, lemmas.List.Elements.All-cons, Math.Seq.take-append_seam}
-use Rattle.jvm_model.specs.declared.values.{Touch.Touch, Value.Value, InitState.TheVariants.Idle}
+use Rattle.std.proofs.{lemmas.List.length-map, Math.ListN.get_or-map, lemmas.List.Elements.All-nil, lemmas.List.Elements.All-cons, Math.Seq.take-append_seam}
+use Rattle.jvm_model.specs.declared.{values.Touch.Touch, values.Value.Value, values.InitState.TheVariants.Idle, program.Program.Program}
 use Rattle.check_sound.proofs.{Blank.null_at, Blank.not_float, Instances.takes_all, Instances.instance_itself, Thrown.object_named, Thrown.builtin_is}
 use Rattle.check_sound.proofs.{LibraryTypes.string_named, Tree.Tree, Tree.typed_done, Ends.Local, Ends.TurnsTo}
 use Rattle.jvm_model.specs.declared.values.Value.TheVariants as value
 use Rattle.jvm_model.specs.declared.values.Kind.TheVariants as kind
-use Rattle.jvm_model.specs.declared.program.{Program.Program, ClassRec.ClassRec, FieldRec.FieldRec}
-use Rattle.jvm_model.specs.{World.World, Access.run, Rows.constant_kind, Step.step, View.IsSafe, Library.builtin_defs, Library.builtin_classes}
-use Rattle.jvm_model.specs.Builtin.{object_class, string_class, stream_class}
+use Rattle.jvm_model.specs.{declared.program.ClassRec.ClassRec, declared.program.FieldRec.FieldRec, World.World, Access.run, Rows.constant_kind, Step.step}
+use Rattle.jvm_model.specs.{View.IsSafe, Library.builtin_defs, Library.builtin_classes, Builtin.object_class, Builtin.string_class, Builtin.stream_class}
 use Rattle.jvm_model.specs.Classes.{no_class, no_field, field_at, is_interface}
 use Rattle.jvm_model.specs.Linked.{IsClass, first_or, opens, takes, class_descriptor, is_interface_at}
 use Rattle.jvm_model.specs.State.{State, Turn, next, ended, stuck_turn, started, test_at}

@@ -5,11 +5,10 @@ use Rattle.std.proofs.lemmas.List.{length-replicate}
 use Rattle.jvm_model.specs.declared.program.{Program.Program, MethodRec.MethodRec, Body.Body, FrameRec.FrameRec, Placed.Placed}
 use Rattle.type_frames.specs.declared.vtype.{VType.VType, VType.TheVariants.Top, VType.TheVariants.Long, Frame.Frame}
 use Rattle.type_frames.specs.declared.stack_effect.{LocalUpdate.LocalUpdate, Substitution.Substitution}
-use Rattle.type_frames.specs.declared.stack_effect.Substitution.TheVariants.{Keep, All}
+use Rattle.type_frames.specs.{declared.stack_effect.Substitution.TheVariants.Keep, declared.stack_effect.Substitution.TheVariants.All, StackEffect.sides}
 use Rattle.type_frames.specs.Frames.{Slots, slots_of, padded, spread, same, index_of}
 use Rattle.type_frames.specs.Given.{entry_types, all_types, joined, locals_after, is_place, frame_at, frame_then, frames_from, body_frames, given_frames}
 use Rattle.type_frames.specs.Environment.{Environment, environment_of, given_at, is_target, found_at}
-use Rattle.type_frames.specs.StackEffect.{sides}
 use Rattle.type_frames.specs.Rules.{turned, turned_one, cut_long, set_one, set_all, after, opening}
 use Rattle.type_frames.specs.Typing.{passed_on, taken_at, taken_by, incoming, before}
 

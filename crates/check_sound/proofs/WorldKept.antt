@@ -1,12 +1,10 @@
 -- A typed world stays typed over writes and new objects.
 use Rattle.std.proofs.Common.{◌≡◌, ◌≢◌, ℕ, ◌<◌, [], length, true, refl, sym, ◌∙◌, ap, subst, inl, inr, arith, Some}
-use Rattle.std.proofs.lemmas.{Bool.cases_Bool, Option.same_Some}
-use Rattle.std.proofs.Math.Seq.{get_or-append_seam}
+use Rattle.std.proofs.{lemmas.Bool.cases_Bool, lemmas.Option.same_Some, Math.Seq.get_or-append_seam}
 use Rattle.jvm_model.specs.declared.values.{Value.Value, Kind.Kind, Head.Head, InitState.InitState, Location.Location}
 use Rattle.jvm_model.specs.declared.values.Location.TheVariants as place
-use Rattle.jvm_model.specs.declared.program.Program.{Program}
+use Rattle.jvm_model.specs.{declared.program.Program.Program, Classes.field_at, Classes.member, Linked.IsKind, View.Exists, View.keys}
 use Rattle.jvm_model.specs.World.{Content, Object, World, no_object, size, object_at, at, put, make_object, part, same}
-use Rattle.jvm_model.specs.{Classes.field_at, Classes.member, Linked.IsKind, View.Exists, View.keys}
 use Rattle.jvm_model.proofs.Locations.{same_true, same_false, at_put_same, at_put_other, at_make_new, at_make_other, size_put, size_make, IsOf, is_of_cases}
 use Rattle.jvm_model.proofs.{Bridges.exists_has, Standing.exists_put, Standing.exists_make}
 use Rattle.type_frames.specs.TypedState.{kind_at, IsDeclared, element_text, TypedWorld}

@@ -1,8 +1,6 @@
 -- Checked code never gets stuck.
 use Rattle.std.specs.Prelude.{◌≡◌, ℕ, ◌<◌}
-use Rattle.jvm_model.specs.declared.program.Program.{Program}
-use Rattle.jvm_model.specs.World.{World, size, object_at}
-use Rattle.jvm_model.specs.{Access.run, Step.step, View.IsSafe, View.IsTurn}
+use Rattle.jvm_model.specs.{declared.program.Program.Program, World.World, World.size, World.object_at, Access.run, Step.step, View.IsSafe, View.IsTurn}
 use Rattle.jvm_model.specs.State.{State, Turn, next, ended, stuck_turn}
 use Rattle.type_frames.specs.{Typing.IsTyped, TypedState.TypedWorld, TypedState.TypedState}
 

@@ -1,7 +1,6 @@
 -- A whole test of checked code never gets stuck, and leaves a typed world.
 use Rattle.std.specs.Prelude.{◌≡◌, ℕ, ◌<◌, ◌≤◌, List, length, Some, All}
-use Rattle.jvm_model.specs.declared.program.Program.{Program}
-use Rattle.jvm_model.specs.{World.World, Access.run, View.IsSafe}
+use Rattle.jvm_model.specs.{declared.program.Program.Program, World.World, Access.run, View.IsSafe}
 use Rattle.jvm_model.specs.Suite.{End, finished, stuck, out_of_steps, tree, opening, Given, one_test, runs_on}
 use Rattle.type_frames.specs.{Typing.IsTyped, TypedState.TypedWorld}
 

@@ -1,15 +1,12 @@
 -- What is left of an initialisation's row once no part is to be looked at, and prices above what is left.
 use Rattle.std.proofs.Common.{◌≡◌, ◌<◌, ◌≤◌, ℕ, List, [], ◌∷◌, ◌+◌, ◌-◌, Bool, true, false, cond, nat_le, if◌then◌else◌, Option, Some, None, IsSome, map, refl, sym, subst, arith}
-use Rattle.jvm_model.specs.declared.values.InitState.{InitState}
-use Rattle.jvm_model.specs.declared.values.InitState.TheVariants.{Idle, Running, Done, Erroneous}
+use Rattle.jvm_model.specs.declared.values.InitState.{InitState, TheVariants.Idle, TheVariants.Running, TheVariants.Done, TheVariants.Erroneous}
+use Rattle.jvm_model.specs.{declared.values.Touch.Touch, declared.program.Body.Body, declared.program.Program.Program, World.World, World.at}
 use Rattle.jvm_model.specs.declared.values.Location.TheVariants as place
-use Rattle.jvm_model.specs.declared.{values.Touch.Touch, program.Body.Body, program.Program.Program}
-use Rattle.jvm_model.specs.{World.World, World.at, Access.Access, Access.spend, Classes.class_at, Classes.method_at, Entries.Entries, Entries.is_full}
+use Rattle.jvm_model.specs.{Access.Access, Access.spend, Classes.class_at, Classes.method_at, Entries.Entries, Entries.is_full, Rows.Answer}
 use Rattle.jvm_model.specs.Initialise.{Part, looks, looked_at, starts, starts_body}
-use Rattle.jvm_model.specs.Rows.{Answer}
 use Rattle.jvm_model.specs.View.{Counted, over, counted, touched, IsSafe, IsRow}
-use Rattle.vm_tables.specs.declared.init_plan.Part.{Part as Looked}
-use Rattle.vm_tables.specs.Starts.{part_of}
+use Rattle.vm_tables.specs.{declared.init_plan.Part.Part as Looked, Starts.part_of}
 use Rattle.class_init.specs.Starting.{HasStart}
 
 body_there : (b : Option Body) (m n : ℕ) (s : Entries) (w : World) → IsSafe IsRow (starts_body b m n s) w → IsSome b

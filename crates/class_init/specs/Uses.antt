@@ -1,7 +1,6 @@
 -- What contracts say of the use of a class.
 use Rattle.std.specs.Prelude.{◌≡◌, ◌≢◌, ℕ, List, Bool, true, false, Result, IfOk}
-use Rattle.jvm_model.specs.declared.{program.Program.Program, values.Touch.Touch}
-use Rattle.jvm_model.specs.{World.World, Entries.Entries}
+use Rattle.jvm_model.specs.{declared.program.Program.Program, declared.values.Touch.Touch, World.World, Entries.Entries}
 use Rattle.jvm_model.specs.Rows.{Used, ready, begun, refused, begin}
 use Rattle.jvm_model.specs.View.{Counted, over, ended, counted, paid, touched, IsSafe, Any}
 use Rattle.vm_mem.specs.Trace.{Trace}

@@ -1,8 +1,7 @@
 //! A step on the initialisation entry at the top.
 
 ghost use Rattle.std.specs.Prelude.{◌≡◌, ◌≤◌, ◌-◌, map, false};
-ghost use Rattle.jvm_model.specs.declared.state.EntryKind.TheVariants.{InClass};
-ghost use Rattle.jvm_model.specs.Initialise.{row_finish};
+ghost use Rattle.jvm_model.specs.{declared.state.EntryKind.TheVariants.InClass, Initialise.row_finish};
 ghost use Rattle.vm_tables.specs.Starts.{part_of};
 ghost use Rattle.vm_mem.specs.Refines.{IsReady, Makes};
 ghost use Rattle.class_init.specs.Starting.{leave_row, look_row};

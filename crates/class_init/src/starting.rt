@@ -1,8 +1,7 @@
 //! What a class's initialisation begins: that of a part of it, or its `<clinit>`.
 
 ghost use Rattle.std.specs.Prelude.{◌≡◌, ◌≤◌, ◌-◌, IfOk, IsSome, false};
-ghost use Rattle.jvm_model.specs.declared.state.EntryKind.TheVariants.{InClass};
-ghost use Rattle.jvm_model.specs.{Classes.class_at, Classes.method_at, World.World};
+ghost use Rattle.jvm_model.specs.{declared.state.EntryKind.TheVariants.InClass, Classes.class_at, Classes.method_at, World.World};
 ghost use Rattle.vm_mem.specs.Refines.{IsReady, Refines, Makes};
 ghost use Rattle.class_init.specs.Starting.{begin_row, start_row, enter_row, HasStart};
 

@@ -1,7 +1,6 @@
 -- The program that is assembled of class files, whatever bodies its methods have: which records stand where.
 use Rattle.std.proofs.Common.{◌≡◌, ◌⊎◌, ℕ, zero, suc, ◌+◌, ◌<◌, List, [], ◌∷◌, ◌++◌, length, get_or, slice_get, ◌-◌, refl, sym, ◌∙◌, ap, inl, inr, arith, Some}
-use Rattle.std.proofs.lemmas.{Bool.cases_lt, Option.slice_get_within, Option.get_or_from_slice_get}
-use Rattle.std.proofs.lemmas.List.{length-append, take_at, get_or-append-add}
+use Rattle.std.proofs.lemmas.{Bool.cases_lt, Option.slice_get_within, Option.get_or_from_slice_get, List.length-append, List.take_at, List.get_or-append-add}
 use Rattle.class_reader.specs.declared.parts.{ClassParts.ClassParts, MemberPart.MemberPart, CodePart.CodePart}
 use Rattle.jvm_model.specs.declared.program.{Program.Program, Body.Body, TestEntry.TestEntry, FieldRec.FieldRec, MethodRec.MethodRec}
 use Rattle.jvm_model.specs.{Builtin.builtin_count, Library.builtin_classes, Library.builtin_fields, Library.builtin_methods}

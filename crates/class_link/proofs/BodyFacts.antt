@@ -2,13 +2,10 @@
 use Rattle.std.proofs.Common.{◌≡◌, ℕ, ◌+◌, ◌%◌, ◌^◌, ◌<◌, ◌≤◌, ℤ, pos, ◌+ℤ◌, ◌≤ℤ◌, Bool, true, false, cond, eqb, leb, ◌||◌, List, [], ◌∷◌, length, map, drop, get_or, Option, Some, None, refl, sym, ap, subst, ◌∙◌, arith, inl, inr}
 use Rattle.std.specs.Prelude.{IfSome, option_map}
 use Rattle.std.specs.Int.{w32, cast_unsigned}
-use Rattle.std.proofs.{lemmas.Bool.Decides.nat_tests, lemmas.List.Elements.All-map, lemmas.List.Elements.All-weaker}
-use Rattle.std.proofs.lemmas.List.{length-map}
-use Rattle.class_pool.specs.declared.pool.Entry.{Entry}
+use Rattle.std.proofs.lemmas.{Bool.Decides.nat_tests, List.Elements.All-map, List.Elements.All-weaker, List.length-map}
+use Rattle.class_pool.specs.{declared.pool.Entry.Entry, Pool.entry_of}
 use Rattle.class_pool.specs.declared.pool.Entry.TheVariants as entry
-use Rattle.class_pool.specs.Pool.{entry_of}
-use Rattle.code_decode.specs.declared.instructions.RawOp.{RawOp}
-use Rattle.code_decode.specs.{Targets.has_start, Judging.class_name, Judging.dimensions}
+use Rattle.code_decode.specs.{declared.instructions.RawOp.RawOp, Targets.has_start, Judging.class_name, Judging.dimensions}
 use Rattle.code_decode.proofs.ArgFacts as args
 use Rattle.code_decode.proofs.ArgFacts.{OnePlace, TableFacts, LookupFacts, IndexCount, MakesArrays, KeysRise, in_turn, table_end}
 use Rattle.code_decode.proofs.CodeFacts.{OpFacts, Ascend, CodeFacts}

@@ -1,14 +1,12 @@
 -- The table of targets serves for looking up each entry.
 use Rattle.std.proofs.Common.{◌≡◌, ℕ, zero, suc, List, [], ◌∷◌, Option, None, Bool, map, refl, sym, ap, ◌∙◌, slice_index_or}
 use Rattle.std.proofs.Math.ListN.{get_or-map}
-use Rattle.class_pool.specs.declared.pool.Entry.{Entry}
-use Rattle.class_pool.specs.Pool.{entry_of}
+use Rattle.class_pool.specs.{declared.pool.Entry.Entry, Pool.entry_of}
 use Rattle.code_decode.specs.declared.instructions.RawOp.{RawOp}
 use Rattle.class_reader.specs.declared.parts.{CodePart.CodePart, RawHandler.RawHandler}
 use Rattle.jvm_model.specs.declared.program.{Placed.Placed, Handler.Handler, FrameRec.FrameRec}
-use Rattle.code_forms.specs.declared.references.Target.{Target}
+use Rattle.code_forms.specs.{declared.references.Target.Target, Operands.index_in}
 use Rattle.class_link.specs.References.{LinkEnvironment, target_of}
-use Rattle.code_forms.specs.Operands.{index_in}
 use Rattle.class_link.specs.Bodies.{targets, target_in, placed, placed_by, handler_rec, frame_recs, is_cut, linked_body}
 
 nothing_for : (s : LinkEnvironment) (slots : List (Option Entry)) → target_of s slots None ≡ None

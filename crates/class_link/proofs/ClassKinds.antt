@@ -1,20 +1,17 @@
 -- Where supertypes have no fault, superclasses and superinterfaces are of their kinds.
 use Rattle.std.proofs.Common.{◌≡◌, ◌⊎◌, ℕ, ◌+◌, ◌-◌, ◌<◌, ◌≤◌, List, length, map, get_or, slice_get, Bool, true, false, not, ◌||◌, nat_eq, nat_le, refl, sym, ◌∙◌, ap, subst, inl, inr, arith, Option, Some, None, IfSome, All}
 use Rattle.std.proofs.lemmas.Bool.{and_parts, or_cases, or_left, or_right, not-true, eqb-true, eq-eqb, leb-true, cond-true}
-use Rattle.std.proofs.{lemmas.List.Elements.All-map, lemmas.List.Folds.list_any_at}
-use Rattle.std.proofs.lemmas.List.FromFn.{length-range_with_len, get_or-range_with_len}
+use Rattle.std.proofs.lemmas.List.{Elements.All-map, Folds.list_any_at, FromFn.length-range_with_len, FromFn.get_or-range_with_len}
 use Rattle.std.proofs.lemmas.Option.{slice_get_within, slice_get-get_or}
 use Rattle.et_base.proofs.Cases.{implied}
-use Rattle.class_pool.specs.declared.pool.{Entry.Entry, Entry.TheVariants.Class}
-use Rattle.class_pool.specs.Pool.{entry_of}
+use Rattle.class_pool.specs.{declared.pool.Entry.Entry, declared.pool.Entry.TheVariants.Class, Pool.entry_of}
 use Rattle.class_reader.specs.declared.parts.{ClassParts.ClassParts, CodePart.CodePart}
 use Rattle.class_reader.proofs.ClassFacts.{ClassFacts}
 use Rattle.jvm_model.specs.declared.program.{Program.Program, ClassRec.ClassRec, Body.Body, TestEntry.TestEntry}
 use Rattle.jvm_model.specs.Builtin.{builtin_count, object_class, throwable_class}
 use Rattle.jvm_model.specs.Classes.{class_at, is_interface, is_below, member}
 use Rattle.jvm_model.specs.Linked.{IsGiven, is_interface_at, IsClassKind}
-use Rattle.class_link.specs.declared.fault.LinkFault.{LinkFault}
-use Rattle.class_link.specs.ClassNames.{name_at, number_or_first, missing}
+use Rattle.class_link.specs.{declared.fault.LinkFault.LinkFault, ClassNames.name_at, ClassNames.number_or_first, ClassNames.missing}
 use Rattle.class_link.specs.{Assembly.assembled, Assembly.skeleton, References.LinkEnvironment, Link.setting}
 use Rattle.class_link.specs.Faults.{first_some, indices, superclass_fits, supertype_fits, missing_or, wrong_unless, supertype_fault, supertypes_fault}
 use Rattle.class_link.proofs.{Assembled.class_given, Assembled.class_cases, Pools.standing, Pools.first_none}

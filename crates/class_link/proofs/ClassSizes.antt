@@ -1,7 +1,6 @@
 -- A class file has few fields and methods.
 use Rattle.std.proofs.Common.{◌≡◌, ◌<◌, length, sym, subst}
-use Rattle.class_reader.specs.declared.parts.ClassParts.{ClassParts}
-use Rattle.class_reader.specs.ClassGrammar.{IsClass}
+use Rattle.class_reader.specs.{declared.parts.ClassParts.ClassParts, ClassGrammar.IsClass}
 use Rattle.class_reader.proofs.ClassFacts.{class_facts}
 
 pub few_fields : (p c : ClassParts) → p ≡ c → IsClass c → length p.fields < 65536

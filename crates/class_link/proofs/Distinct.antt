@@ -5,8 +5,7 @@ use Rattle.std.specs.{List.list_any, Str.bytes_eq}
 use Rattle.std.proofs.lemmas.Bool.{cases_Bool, cases_lt, cases_order, and_parts, and_from, ltb-true, eq-eqb, cond-true, cond-false, cond_both}
 use Rattle.std.proofs.lemmas.List.{append-nil, length_push, get_or_push, get_or_append_left}
 use Rattle.std.proofs.lemmas.Option.{slice_get_within, get_or_from_slice_get}
-use Rattle.class_pool.specs.declared.pool.Entry.{Entry}
-use Rattle.class_pool.specs.Pool.{entry_of, text_of}
+use Rattle.class_pool.specs.{declared.pool.Entry.Entry, Pool.entry_of, Pool.text_of}
 use Rattle.class_pool.proofs.EntryFacts.{NamesText, units_are}
 use Rattle.class_reader.specs.declared.parts.{ClassParts.ClassParts, MemberPart.MemberPart, CodePart.CodePart}
 use Rattle.class_reader.proofs.MemberFacts.{FieldFacts, MethodFacts, Differ}

@@ -1,10 +1,8 @@
 -- The first fault of several entries.
 use Rattle.std.proofs.Common.{◌≡◌, ℕ, suc, ◌+◌, ◌-◌, ◌<◌, List, ◌∷◌, refl, sym, ◌∙◌, ap, subst, arith, Option, Some, None, Result, Ok, Err}
 use Rattle.std.specs.{List.range_with_len, Result.IsErrAnd}
-use Rattle.class_link.specs.declared.fault.LinkFault.{LinkFault}
+use Rattle.class_link.specs.{declared.fault.LinkFault.LinkFault, Answers.Fails, Answers.Gives, Answers.nothing, Faults.first_some, Link.unless}
 use Rattle.class_link.specs.declared.fault.LinkFault.TheVariants as fault
-use Rattle.class_link.specs.Answers.{Fails, Gives, nothing}
-use Rattle.class_link.specs.{Faults.first_some, Link.unless}
 
 next_index : (i n : ℕ) → i < n → range_with_len i (n - i) ≡ i ∷ range_with_len (i + 1) (n - (i + 1))
 next_index i n h = let e : n - i ≡ suc (n - (i + 1)) = omega arith in ap (λ k. range_with_len i k) e

@@ -10,17 +10,15 @@ use Rattle.jvm_model.specs.declared.program.{Program.Program, MethodRec.MethodRe
 use Rattle.jvm_model.specs.{Builtin.builtin_count, Library.builtin_defs, Library.builtin_methods, Classes.method_at, Classes.is_static, Lookup.find_method}
 use Rattle.jvm_model.specs.Linked.{IsMethod, NamesBody, IsBodyKind, IsBody, IsFormFound, is_interface_at, Linked}
 use Rattle.jvm_model.proofs.{BuiltinRules.method_keeps, Ranges.all_there}
-use Rattle.class_link.specs.declared.{fault.LinkFault.LinkFault, lines.TestLines.TestLines}
-use Rattle.class_link.specs.{Assembly.assembled, Assembly.skeleton, Bodies.linked_body}
+use Rattle.class_link.specs.{declared.fault.LinkFault.LinkFault, declared.lines.TestLines.TestLines, Assembly.assembled, Assembly.skeleton, Bodies.linked_body}
 use Rattle.class_link.specs.Faults.{first_some, duplicate_fault, supertypes_fault, all_references_fault}
 use Rattle.member_lookup.specs.Ancestors.{IsFirstCycle}
 use Rattle.et_base.specs.Answers.{◌>>=◌}
 use Rattle.class_link.specs.Link.{setting, unless, cycle_fault, tests_of, program_of, link_by, Links, AreLines, AreDifferent}
 use Rattle.class_link.proofs.Assembled.{holds_builtins, class_count, method_cases}
-use Rattle.class_link.proofs.Records.{class_numbers, field_class, method_class}
-use Rattle.class_link.proofs.{Listed.AllKnown, Listed.is_listed, Distinct.is_distinct, Openings.has_openings, SkeletonFacts.ancestor_same}
-use Rattle.class_link.proofs.{ClassKinds.class_kinds, SuiteTests.IsGood, SuiteTests.all_good, Found.static_owner}
-use Rattle.class_link.proofs.LinkedCode.{names_body, body_kind, body_found, body_is}
+use Rattle.class_link.proofs.{Records.class_numbers, Records.field_class, Records.method_class, Listed.AllKnown, Listed.is_listed, Distinct.is_distinct}
+use Rattle.class_link.proofs.{Openings.has_openings, SkeletonFacts.ancestor_same, ClassKinds.class_kinds, SuiteTests.IsGood, SuiteTests.all_good}
+use Rattle.class_link.proofs.{Found.static_owner, LinkedCode.names_body, LinkedCode.body_kind, LinkedCode.body_found, LinkedCode.body_is}
 
 -- what is known of the code of each class file
 abbrev pub AllCoded : List ClassParts → Type 0

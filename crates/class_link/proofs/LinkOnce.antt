@@ -2,14 +2,12 @@
 use Rattle.std.proofs.Common.{◌≡◌, ℕ, List, [], length, Option, Some, None, Result, Ok, Err, refl, sym, ◌∙◌, ap, subst, inl, inr, IfSome}
 use Rattle.std.proofs.lemmas.Bool.{cases_lt}
 use Rattle.class_reader.specs.declared.parts.ClassParts.{ClassParts}
-use Rattle.jvm_model.specs.declared.program.Program.{Program}
-use Rattle.jvm_model.specs.{Builtin.builtin_count, Classes.class_at, Linked.IsClass}
+use Rattle.jvm_model.specs.{declared.program.Program.Program, Builtin.builtin_count, Classes.class_at, Linked.IsClass}
 use Rattle.member_lookup.specs.Ancestors.{IsFirstCycle}
 use Rattle.member_lookup.proofs.Ancestry.{is_direct, nothing_above, place_of}
 use Rattle.member_lookup.proofs.FirstCycle.{AreThere, cycle_found, cycle_once}
-use Rattle.class_link.specs.declared.{fault.LinkFault.LinkFault, lines.TestLines.TestLines}
+use Rattle.class_link.specs.{declared.fault.LinkFault.LinkFault, declared.lines.TestLines.TestLines, Assembly.skeleton, Assembly.bare_body}
 use Rattle.class_link.specs.declared.fault.LinkFault.TheVariants as fault
-use Rattle.class_link.specs.Assembly.{skeleton, bare_body}
 use Rattle.class_link.specs.Faults.{first_some, duplicate_fault, supertypes_fault, all_references_fault}
 use Rattle.et_base.specs.Answers.{◌>>=◌}
 use Rattle.class_link.specs.Link.{setting, unless, cycle_fault, tests_of, program_of, link_by, LinksBy, Links, LinksOnce}

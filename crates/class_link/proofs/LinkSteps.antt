@@ -2,8 +2,7 @@
 use Rattle.std.proofs.Common.{◌≡◌, ◌⊎◌, ℕ, ◌+◌, ◌<◌, ◌≤◌, ◌^◌, List, [], length, take, Option, Some, None, Result, Ok, Err, refl, sym, ap, subst, ◌∙◌, arith, inl, inr}
 use Rattle.std.specs.Result.{IsErrAnd}
 use Rattle.class_reader.specs.declared.parts.ClassParts.{ClassParts}
-use Rattle.jvm_model.specs.declared.program.{Program.Program, TestEntry.TestEntry}
-use Rattle.jvm_model.specs.{Builtin.builtin_count, Library.builtin_classes}
+use Rattle.jvm_model.specs.{declared.program.Program.Program, declared.program.TestEntry.TestEntry, Builtin.builtin_count, Library.builtin_classes}
 use Rattle.class_link.specs.declared.{fault.LinkFault.LinkFault, lines.TestLine.TestLine, lines.TestLines.TestLines}
 use Rattle.class_link.specs.declared.fault.LinkFault.TheVariants as fault
 use Rattle.class_link.specs.{Answers.Fails, Assembly.skeleton, Assembly.bare_body, References.LinkEnvironment}

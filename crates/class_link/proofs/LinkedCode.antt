@@ -2,31 +2,26 @@
 -- those that the look-up finds.
 use Rattle.std.proofs.Common.{◌≡◌, ℕ, ◌+◌, ◌<◌, List, [], length, get_or, slice_get, Bool, true, false, nat_eq, nat_le, cond, refl, sym, ◌∙◌, ap, subst, inl, inr, arith, Option, Some, None, IfSome, All}
 use Rattle.std.specs.Prelude.{option_map, unwrap_or, drop}
-use Rattle.std.proofs.lemmas.{Bool.eq-eqb, Bool.cond_both, Option.slice_get-get_or}
-use Rattle.std.proofs.lemmas.List.Elements.{All-map}
-use Rattle.class_pool.specs.declared.pool.Entry.{Entry}
+use Rattle.std.proofs.lemmas.{Bool.eq-eqb, Bool.cond_both, Option.slice_get-get_or, List.Elements.All-map}
+use Rattle.class_pool.specs.{declared.pool.Entry.Entry, Pool.entry_of, Pool.class_name_of}
 use Rattle.class_pool.specs.declared.pool.Entry.TheVariants as entry
-use Rattle.class_pool.specs.Pool.{entry_of, class_name_of}
 use Rattle.class_pool.proofs.EntryFacts.{NamesClass}
-use Rattle.code_decode.specs.declared.instructions.RawOp.{RawOp}
-use Rattle.code_decode.specs.Judging.{dimensions}
+use Rattle.code_decode.specs.{declared.instructions.RawOp.RawOp, Judging.dimensions}
 use Rattle.code_decode.proofs.CodeFacts.{OpFacts}
 use Rattle.class_reader.specs.declared.parts.{ClassParts.ClassParts, MemberPart.MemberPart, CodePart.CodePart, RawHandler.RawHandler}
 use Rattle.class_reader.proofs.PartFacts.{HandlerFacts, PartFacts}
 use Rattle.et_base.specs.Names.{starts_array}
-use Rattle.jvm_model.specs.declared.values.Kind.{Kind}
+use Rattle.jvm_model.specs.declared.{values.Kind.Kind, program.Program.Program, program.Body.Body, program.Placed.Placed, program.Handler.Handler}
 use Rattle.jvm_model.specs.declared.values.Kind.TheVariants as kind
-use Rattle.jvm_model.specs.declared.program.{Program.Program, Body.Body, Placed.Placed, Handler.Handler, TestEntry.TestEntry}
-use Rattle.jvm_model.specs.{Builtin.builtin_count, Builtin.throwable_class, Selection.named_class, Lookup.find_method}
+use Rattle.jvm_model.specs.{declared.program.TestEntry.TestEntry, Builtin.builtin_count, Builtin.throwable_class, Selection.named_class, Lookup.find_method}
 use Rattle.jvm_model.specs.Classes.{method_at, is_static, is_below}
 use Rattle.jvm_model.specs.Linked.{IsClass, NamesForm, NamesBody, IsFormKind, IsBodyKind, IsFormFound, IsBody, is_interface_at}
 use Rattle.code_forms.specs.declared.references.Use.TheVariants as used
-use Rattle.code_forms.specs.declared.references.Target.{Target}
+use Rattle.code_forms.specs.{declared.references.Target.Target, Operands.index_in, Uses.fits, Forms.form_of}
 use Rattle.code_forms.specs.declared.references.Target.TheVariants as target
 use Rattle.jvm_model.proofs.Ranges.{all_there}
 use Rattle.class_link.specs.ClassNames.{text_at, name_at, all_names, class_number, number_or_first, base_of, kind_of}
 use Rattle.class_link.specs.{Assembly.skeleton, References.LinkEnvironment, References.target_of, Faults.all_references_fault, Faults.references_fault}
-use Rattle.code_forms.specs.{Operands.index_in, Uses.fits, Forms.form_of}
 use Rattle.class_link.specs.{Bodies.placed, Bodies.caught, Bodies.handler_rec, Bodies.linked_body, Link.setting, Link.program_of}
 use Rattle.class_link.proofs.{Assembled.class_count, Numbered.if_some, Numbered.number_class, SkeletonFacts.below_same, SkeletonFacts.fits_same}
 use Rattle.class_link.proofs.{TargetFacts.target_is, BodyFacts.makes_nested, BodyFacts.is_body}

@@ -3,13 +3,11 @@ use Rattle.std.proofs.Common.{◌≡◌, ℕ, zero, suc, ◌+◌, ◌*◌, ◌/�
 use Rattle.std.specs.Prelude.{is_some, is_none, option_map, unwrap_or, bit_and, ◌&&◌, ◌||◌, ◌==◌, if◌then◌else◌}
 use Rattle.std.specs.{List.range_with_len, Str.bytes_eq}
 use Rattle.std.proofs.lemmas.Bool.{and_parts, cases_order, or_cases, ltb-true, le-leb, eqb-true, eqb-false, ne_eqb, eq-eqb}
-use Rattle.std.proofs.lemmas.{List.get_or_append_left, Option.slice_get_within}
-use Rattle.std.proofs.lemmas.Nat.Bits.{and_pow}
+use Rattle.std.proofs.lemmas.{List.get_or_append_left, Option.slice_get_within, Nat.Bits.and_pow}
 use Rattle.class_pool.specs.declared.pool.Entry.{Entry}
 use Rattle.class_pool.proofs.EntryFacts.{NamesText, units_are}
-use Rattle.class_reader.specs.declared.parts.{ClassParts.ClassParts, CodePart.CodePart, MemberPart.MemberPart}
+use Rattle.class_reader.specs.{declared.parts.ClassParts.ClassParts, declared.parts.CodePart.CodePart, declared.parts.MemberPart.MemberPart, Names.own_units}
 use Rattle.class_reader.proofs.{ClassFacts.ClassFacts, ClassFacts.own_name_is, MemberFacts.FieldFacts, MemberFacts.MethodFacts, MemberFacts.HasRoom}
-use Rattle.class_reader.specs.Names.{own_units}
 use Rattle.et_base.specs.Names.{is_class_name, is_unqualified, is_method_name, is_field_descriptor, is_method_descriptor, argument_units}
 use Rattle.jvm_model.specs.declared.program.{Program.Program, ClassRec.ClassRec, FieldRec.FieldRec, MethodRec.MethodRec, Body.Body, TestEntry.TestEntry}
 use Rattle.jvm_model.specs.{Builtin.builtin_count, Builtin.object_class, Driver.no_arguments}

@@ -1,16 +1,13 @@
 -- The marks of entries say of each how it is used.
 use Rattle.std.proofs.Common.{◌≡◌, ℕ, zero, suc, ◌+◌, ◌-◌, ◌<◌, ◌≤◌, List, [], ◌∷◌, length, replicate, Bool, true, false, ◌&&◌, cond, nat_eq, slice_set, slice_index_or, refl, sym, ◌∙◌, ap, subst, arith, Option, Some, None, Ok}
 use Rattle.std.specs.List.{list_all, range_with_len}
-use Rattle.std.proofs.Math.Bool.{and-true, and_assoc}
-use Rattle.std.proofs.lemmas.Bool.{eqb-true, eq-eqb, ne_eqb}
+use Rattle.std.proofs.{Math.Bool.and-true, Math.Bool.and_assoc, lemmas.Bool.eqb-true, lemmas.Bool.eq-eqb, lemmas.Bool.ne_eqb}
 use Rattle.std.proofs.lemmas.List.{get_or-set_same, get_or-set_other, get_or-replicate, length-set, length-replicate}
-use Rattle.class_pool.specs.declared.pool.Entry.{Entry}
-use Rattle.class_pool.specs.Pool.{entry_of}
+use Rattle.class_pool.specs.{declared.pool.Entry.Entry, Pool.entry_of}
 use Rattle.class_reader.specs.declared.parts.ClassParts.{ClassParts}
 use Rattle.jvm_model.specs.declared.program.Program.{Program}
-use Rattle.class_link.specs.declared.fault.LinkFault.{LinkFault}
+use Rattle.class_link.specs.{declared.fault.LinkFault.LinkFault, References.LinkEnvironment, References.target_of, References.missing_for, References.uses}
 use Rattle.code_forms.specs.declared.references.{Use.Use, Target.Target}
-use Rattle.class_link.specs.References.{LinkEnvironment, target_of, missing_for, uses}
 use Rattle.class_link.specs.{Bodies.targets, Bodies.target_in, Answers.Fails, Link.unless}
 use Rattle.class_link.specs.Faults.{entry_fault, first_some, indices, missing_or, references_fault, target_fault, uses_at}
 use Rattle.class_link.proofs.{FaultLaws.next_first, FaultLaws.fails_first, BodyLaws.target_in-targets}

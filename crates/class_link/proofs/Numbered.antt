@@ -1,15 +1,13 @@
 -- Names to numbers: a class's number names an entry of the program, and that entry has the name.
 use Rattle.std.proofs.Common.{◌≡◌, ℕ, ◌+◌, ◌-◌, ◌<◌, List, [], ◌∷◌, ◌++◌, length, map, get_or, refl, sym, ◌∙◌, ap, subst, arith, Option, Some, None, IfSome, All}
 use Rattle.std.specs.Prelude.{flat_map, unwrap_or}
-use Rattle.std.proofs.lemmas.List.{length-map, map-append, get_or-map}
+use Rattle.std.proofs.lemmas.List.{length-map, map-append, get_or-map, Quantifiers.position-Some}
 use Rattle.std.proofs.lemmas.List.Elements.{All-nil, All-cons, All-head, All-tail, All-append, All-filter}
 use Rattle.et_base.proofs.Texts.{units_true}
-use Rattle.std.proofs.lemmas.List.Quantifiers.{position-Some}
 use Rattle.class_reader.specs.declared.parts.{ClassParts.ClassParts, CodePart.CodePart}
 use Rattle.jvm_model.specs.declared.program.{Program.Program, Body.Body, ClassRec.ClassRec, TestEntry.TestEntry}
 use Rattle.std.specs.Str.{bytes_eq}
-use Rattle.jvm_model.specs.{Builtin.builtin_count, Linked.IsClass}
-use Rattle.jvm_model.specs.Library.{builtin_classes, builtin_fields, builtin_methods}
+use Rattle.jvm_model.specs.{Builtin.builtin_count, Linked.IsClass, Library.builtin_classes, Library.builtin_fields, Library.builtin_methods}
 use Rattle.jvm_model.specs.Classes.{class_at, no_class, first_mentions}
 use Rattle.class_link.specs.ClassNames.{own_name, all_names, class_number, number_or_first}
 use Rattle.class_link.specs.Assembly.{class_recs, assembled}

@@ -1,18 +1,16 @@
 -- Fields open with values of their types.
 use Rattle.std.proofs.Common.{◌≡◌, ℕ, suc, ◌≤◌, ℤ, List, [], ◌∷◌, length, slice_get, true, false, nat_eq, nat_le, nat_lt, refl, sym, ◌∙◌, ap, subst, inl, inr, arith, Option, Some, None, IfSome, codes}
 use Rattle.std.proofs.lemmas.Bool.{cases_Bool, or_cases, eqb-true, ne_eqb, lt-ltb, le-leb}
-use Rattle.jvm_model.specs.{Narrow.narrow, Narrow.narrowed, Linked.opens, Linked.HasOpenings}
+use Rattle.jvm_model.specs.declared.program.{FieldRec.FieldRec, Body.Body, TestEntry.TestEntry, Program.Program}
 use Rattle.et_base.specs.Names.{is_base, after_element, after_type, ends, is_field_descriptor}
 use Rattle.std.proofs.lemmas.Slice.Eq.{bytes_eq-Decides}
-use Rattle.class_pool.specs.declared.pool.{Entry.Entry, Entry.TheVariants.Utf8, Entry.TheVariants.Str}
+use Rattle.class_pool.specs.{declared.pool.Entry.Entry, declared.pool.Entry.TheVariants.Utf8, declared.pool.Entry.TheVariants.Str, Pool.entry_of}
 use Rattle.class_pool.specs.declared.pool.Entry.TheVariants as entry
-use Rattle.class_pool.specs.Pool.{entry_of}
 use Rattle.class_reader.specs.declared.parts.{ClassParts.ClassParts, MemberPart.MemberPart, CodePart.CodePart}
 use Rattle.class_reader.specs.Names.{is_text_of, is_small, fits_constant}
 use Rattle.class_reader.proofs.MemberFacts.{FieldFacts}
-use Rattle.jvm_model.specs.declared.program.{FieldRec.FieldRec, Body.Body, TestEntry.TestEntry, Program.Program}
-use Rattle.jvm_model.specs.declared.values.Value.TheVariants.{Int, Lit}
-use Rattle.jvm_model.specs.Classes.{member, is_static, default_of}
+use Rattle.jvm_model.specs.{declared.values.Value.TheVariants.Int, declared.values.Value.TheVariants.Lit, Narrow.narrow, Narrow.narrowed}
+use Rattle.jvm_model.specs.{Linked.opens, Linked.HasOpenings, Classes.member, Classes.is_static, Classes.default_of}
 use Rattle.jvm_model.proofs.{BuiltinRules.builtin_field, BuiltinRules.builtin_opens, Ranges.all_there}
 use Rattle.jvm_model.proofs.NarrowedFits.{member_holds, narrowed_fits, smalls}
 use Rattle.class_link.specs.{ClassNames.text_at, Literals.literals, Literals.literal_number}

@@ -2,10 +2,8 @@
 use Rattle.std.proofs.Common.{◌≡◌, ℕ, zero, suc, ◌<◌, ◌≤◌, List, [], ◌∷◌, ◌++◌, length, slice_get, Bool, true, false, cond, refl, sym, ◌∙◌, ap, arith, Option, Some, None, IfSome}
 use Rattle.std.specs.Prelude.{flat_map, position, unwrap_or, slice_index_or}
 use Rattle.std.specs.{List.list_any, Str.bytes_eq}
-use Rattle.std.proofs.lemmas.List.{length-append, length_push}
-use Rattle.std.proofs.lemmas.List.Quantifiers.{position-Some}
-use Rattle.class_pool.specs.declared.pool.{Entry.Entry, Entry.TheVariants.Str}
-use Rattle.class_pool.specs.Pool.{entry_of}
+use Rattle.std.proofs.lemmas.List.{length-append, length_push, Quantifiers.position-Some}
+use Rattle.class_pool.specs.{declared.pool.Entry.Entry, declared.pool.Entry.TheVariants.Str, Pool.entry_of}
 use Rattle.class_reader.specs.declared.parts.ClassParts.{ClassParts}
 use Rattle.class_link.specs.Literals.{string_in, strings_of, noted, literals, literal_number}
 use Rattle.class_link.specs.Faults.{first_some}

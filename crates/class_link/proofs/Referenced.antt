@@ -3,14 +3,12 @@ use Rattle.std.proofs.Common.{◌≡◌, ℕ, zero, suc, ◌+◌, ◌-◌, List,
 use Rattle.std.specs.Prelude.{flat_map}
 use Rattle.std.specs.List.{list_all}
 use Rattle.std.proofs.lemmas.Bool.{and_parts, eq-eqb}
-use Rattle.class_pool.specs.declared.pool.Entry.{Entry}
-use Rattle.class_pool.specs.Pool.{entry_of}
+use Rattle.class_pool.specs.{declared.pool.Entry.Entry, Pool.entry_of}
 use Rattle.code_decode.specs.declared.instructions.RawOp.{RawOp}
 use Rattle.class_reader.specs.declared.parts.{ClassParts.ClassParts, MemberPart.MemberPart, CodePart.CodePart, RawHandler.RawHandler}
-use Rattle.code_forms.specs.declared.references.{Use.Use, Target.Target}
+use Rattle.code_forms.specs.{declared.references.Use.Use, declared.references.Target.Target, Uses.use_of, Uses.fits, Operands.index_in}
 use Rattle.code_forms.specs.declared.references.Use.TheVariants as used
 use Rattle.class_link.specs.References.{LinkEnvironment, target_of, missing_for, op_use, handler_use, code_uses, uses}
-use Rattle.code_forms.specs.{Uses.use_of, Uses.fits, Operands.index_in}
 use Rattle.class_link.specs.Faults.{indices, uses_at, all_fit, target_fault, entry_fault, references_fault, all_references_fault}
 use Rattle.class_link.proofs.{Blocks.left_place, Blocks.right_place, Pools.none_both, Pools.first_none}
 use Rattle.class_link.proofs.ClassKinds.{index_listed, not_missing, not_wrong}

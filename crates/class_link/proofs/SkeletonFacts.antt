@@ -2,8 +2,7 @@
 -- methods but for their bodies.
 use Rattle.std.proofs.Common.{◌≡◌, ℕ, ◌+◌, List, [], ◌∷◌, ◌++◌, map, get_or, Bool, refl, sym, ◌∙◌, ap, Option, Some, None}
 use Rattle.std.specs.Prelude.{is_some, option_map}
-use Rattle.std.proofs.Math.ListN.{get_or-map}
-use Rattle.std.proofs.lemmas.List.{map-append}
+use Rattle.std.proofs.{Math.ListN.get_or-map, lemmas.List.map-append}
 use Rattle.class_pool.specs.declared.pool.Entry.{Entry}
 use Rattle.class_reader.specs.declared.parts.{ClassParts.ClassParts, MemberPart.MemberPart, CodePart.CodePart}
 use Rattle.jvm_model.specs.declared.{program.Program.Program, program.Body.Body, program.TestEntry.TestEntry, values.Kind.Kind}
@@ -15,10 +14,9 @@ use Rattle.class_link.specs.Assembly.{bare_body, method_rec, method_recs, assemb
 use Rattle.member_lookup.proofs.Alike as alike
 use Rattle.member_lookup.proofs.Alike.{Outline, outline}
 use Rattle.jvm_model.specs.declared.values.Kind.TheVariants as kind
-use Rattle.code_forms.specs.declared.references.{Use.Use, Target.Target}
+use Rattle.code_forms.specs.{declared.references.Use.Use, declared.references.Target.Target, Uses.method_fits, Uses.type_fits, Uses.fits}
 use Rattle.code_forms.specs.declared.references.Use.TheVariants as used
 use Rattle.code_forms.specs.declared.references.Target.TheVariants as target
-use Rattle.code_forms.specs.Uses.{method_fits, type_fits, fits}
 
 mapped_some : {A B : Type 0} (f g : A → B) (o : Option A) → is_some (option_map f o) ≡ is_some (option_map g o)
 mapped_some f g None = refl

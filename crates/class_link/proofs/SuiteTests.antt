@@ -3,18 +3,16 @@ use Rattle.std.proofs.Common.{◌≡◌, ℕ, suc, ◌+◌, ◌<◌, ◌≤◌, 
 use Rattle.std.specs.Prelude.{is_some, option_and_then}
 use Rattle.std.specs.List.{list_all}
 use Rattle.std.proofs.lemmas.Bool.{and_parts, or_cases, not-true, leb-true, cond_both}
-use Rattle.std.proofs.lemmas.List.{length_push}
-use Rattle.std.proofs.lemmas.List.Elements.{All-push}
+use Rattle.std.proofs.lemmas.List.{length_push, Elements.All-push}
 use Rattle.class_reader.specs.declared.parts.{ClassParts.ClassParts, CodePart.CodePart}
 use Rattle.jvm_model.specs.declared.program.{Program.Program, ClassRec.ClassRec, Body.Body, TestEntry.TestEntry}
 use Rattle.jvm_model.specs.{Builtin.builtin_count, Suite.suite_limit, RowsCreate.is_bare, Driver.no_arguments, Driver.plain_method_in}
 use Rattle.jvm_model.specs.Classes.{class_at, method_at, is_static, is_abstract, is_interface, init_name, upwards}
 use Rattle.jvm_model.specs.Linked.{IsMethod, is_word, test_method, IsTest}
-use Rattle.class_link.specs.declared.{fault.LinkFault.LinkFault, lines.TestLine.TestLine}
+use Rattle.class_link.specs.{declared.fault.LinkFault.LinkFault, declared.lines.TestLine.TestLine, ClassNames.all_names, ClassNames.class_number}
 use Rattle.class_link.specs.declared.fault.LinkFault.TheVariants as fault
-use Rattle.class_link.specs.{ClassNames.all_names, ClassNames.class_number, Assembly.assembled, Assembly.skeleton}
+use Rattle.class_link.specs.{Assembly.assembled, Assembly.skeleton, Link.setting, Link.tests_of, Link.is_test_name}
 use Rattle.class_link.specs.Faults.{holds_tests, is_test_method, entry_with, test_in, test_entry}
-use Rattle.class_link.specs.Link.{setting, tests_of, is_test_name}
 use Rattle.member_lookup.proofs.Alike.{Outline, outline}
 use Rattle.class_link.proofs.{Numbered.number_is, Records.class_numbers, Found.declared_named}
 use Rattle.class_link.proofs.SkeletonFacts.{class_same, outline_same, test_method_same, plain_method_same}

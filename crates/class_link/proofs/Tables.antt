@@ -3,9 +3,8 @@ use Rattle.std.proofs.Common.{◌≡◌, ℕ, zero, suc, ◌+◌, ◌<◌, List,
 use Rattle.std.specs.Prelude.{is_some, is_none}
 use Rattle.std.specs.{List.list_all, List.list_any, Str.bytes_eq}
 use Rattle.std.proofs.lemmas.Bool.{and_parts, not-true, or_parts}
-use Rattle.jvm_model.specs.declared.program.{ClassRec.ClassRec, FieldRec.FieldRec, MethodRec.MethodRec}
-use Rattle.jvm_model.specs.{Builtin.builtin_count, Linked.count}
-use Rattle.jvm_model.specs.Library.{builtin_defs, builtin_classes, builtin_fields, builtin_methods}
+use Rattle.jvm_model.specs.{declared.program.ClassRec.ClassRec, declared.program.FieldRec.FieldRec, declared.program.MethodRec.MethodRec, Builtin.builtin_count}
+use Rattle.jvm_model.specs.{Linked.count, Library.builtin_defs, Library.builtin_classes, Library.builtin_fields, Library.builtin_methods}
 use Rattle.jvm_model.specs.Classes.{no_class, no_field, no_method, is_static, default_of}
 use Rattle.jvm_model.proofs.Builtins.{builtin_methods_differ}
 use Rattle.class_link.specs.Literals.{noted}

@@ -2,20 +2,17 @@
 use Rattle.std.proofs.Common.{◌≡◌, ℕ, ◌+◌, ◌<◌, List, [], ◌∷◌, drop, Bool, true, false, nat_eq, nat_le, cond, refl, ap, ◌∙◌, subst, arith, slice_get, Option, Some, None}
 use Rattle.std.specs.Prelude.{option_map}
 use Rattle.std.specs.List.{prefix_len}
-use Rattle.std.proofs.lemmas.List.Folds.{length-prefix_len}
-use Rattle.std.proofs.lemmas.Bool.{leb-true, cond_both}
-use Rattle.class_pool.specs.declared.pool.Entry.{Entry}
+use Rattle.std.proofs.lemmas.{List.Folds.length-prefix_len, Bool.leb-true, Bool.cond_both}
+use Rattle.class_pool.specs.{declared.pool.Entry.Entry, Pool.entry_of}
 use Rattle.class_pool.specs.declared.pool.Entry.TheVariants as entry
-use Rattle.class_pool.specs.Pool.{entry_of}
 use Rattle.code_decode.specs.Judging.{dimensions}
 use Rattle.class_reader.specs.declared.parts.{ClassParts.ClassParts, CodePart.CodePart}
 use Rattle.et_base.specs.Names.{starts_array}
 use Rattle.jvm_model.specs.declared.values.{Base.Base, Kind.Kind, Value.TheVariants.Int, Value.TheVariants.Long, Value.TheVariants.Lit}
 use Rattle.jvm_model.specs.declared.values.Base.TheVariants as base
 use Rattle.jvm_model.specs.declared.values.Kind.TheVariants as kind
-use Rattle.jvm_model.specs.declared.program.{Program.Program, Body.Body, TestEntry.TestEntry}
-use Rattle.jvm_model.specs.{Selection.named_class, Lookup.find_field, Lookup.find_method, Lookup.lacks_method}
-use Rattle.jvm_model.specs.Linked.{IsClass, IsLiteral, IsBase, IsKind}
+use Rattle.jvm_model.specs.{declared.program.Program.Program, declared.program.Body.Body, declared.program.TestEntry.TestEntry, Selection.named_class}
+use Rattle.jvm_model.specs.{Lookup.find_field, Lookup.find_method, Lookup.lacks_method, Linked.IsClass, Linked.IsLiteral, Linked.IsBase, Linked.IsKind}
 use Rattle.code_forms.specs.declared.references.Target.{Target}
 use Rattle.code_forms.specs.declared.references.Target.TheVariants as target
 use Rattle.code_forms.proofs.FormFacts.{IsTarget}

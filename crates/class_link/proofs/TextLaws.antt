@@ -1,12 +1,9 @@
 -- Different texts seen as a list, with their places.
 use Rattle.std.proofs.Common.{◌≡◌, ◌+◌, ◌<◌, ℕ, suc, Bool, true, false, ◌||◌, cond, List, [], ◌∷◌, ◌++◌, length, position, Option, Some, None, is_some, refl, sym, ap, ◌∙◌, arith, add-zero, IfSome}
-use Rattle.std.specs.{List.list_any, List.position_from, Ordering.nat_cmp, Cmp.Lexicographic.slice_cmp, Map.KeepsOthers, Str.bytes_eq}
-use Rattle.std.specs.BTreeMap.{BTreeMap, Updates, is_at, IsEmpty}
-use Rattle.std.specs.declared.{vec.Vec.Vec, alloc.Global.Global}
-use Rattle.std.proofs.lemmas.{Bool.or_parts, List.length-append}
-use Rattle.std.proofs.lemmas.Cmp.{nat_list_cmp_total, nat_list_eq_equiv, eq_by_cmp_equiv}
-use Rattle.std.proofs.{lemmas.Iterator.Adapters.position_from-zero, lemmas.List.Quantifiers.position-Some, lemmas.Map.Text.is_eq-slice_cmp}
-use Rattle.std.proofs.lemmas.Slice.Eq.{bytes_eq-Decides}
+use Rattle.std.specs.{declared.vec.Vec.Vec, declared.alloc.Global.Global, List.list_any, List.position_from, Ordering.nat_cmp, Cmp.Lexicographic.slice_cmp}
+use Rattle.std.specs.{Map.KeepsOthers, Str.bytes_eq, BTreeMap.BTreeMap, BTreeMap.Updates, BTreeMap.is_at, BTreeMap.IsEmpty}
+use Rattle.std.proofs.lemmas.{Bool.or_parts, List.length-append, Cmp.nat_list_cmp_total, Cmp.nat_list_eq_equiv, Cmp.eq_by_cmp_equiv}
+use Rattle.std.proofs.lemmas.{Iterator.Adapters.position_from-zero, List.Quantifiers.position-Some, Map.Text.is_eq-slice_cmp, Slice.Eq.bytes_eq-Decides}
 use Rattle.class_link.specs.{Literals.noted, Placed.number_in, Placed.IsPlaced}
 
 -- ---- places

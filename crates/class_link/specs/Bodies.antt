@@ -1,14 +1,12 @@
 -- The code of a method, its references resolved (JVMS 4.7.3 and 4.7.4).
 use Rattle.std.specs.Prelude.{ℕ, zero, suc, List, [], length, map, Option, Some, None, Bool, false, cond, nat_eq, nat_lt, slice_index_or, ◌==◌, if◌then◌else◌}
-use Rattle.class_pool.specs.declared.pool.Entry.{Entry}
-use Rattle.class_pool.specs.Pool.{entry_of}
+use Rattle.class_pool.specs.{declared.pool.Entry.Entry, Pool.entry_of}
 use Rattle.code_decode.specs.declared.instructions.RawOp.{RawOp}
 use Rattle.class_reader.specs.declared.parts.{CodePart.CodePart, RawHandler.RawHandler, MapPart.MapPart, MapFrame.MapFrame, MapType.MapType}
 use Rattle.jvm_model.specs.declared.program.{Body.Body, Placed.Placed, Handler.Handler, FrameRec.FrameRec, TypeRec.TypeRec}
 use Rattle.jvm_model.specs.declared.program.TypeRec.TheVariants.{Plain, Object, Uninit}
-use Rattle.code_forms.specs.declared.references.Target.{Target}
+use Rattle.code_forms.specs.{declared.references.Target.Target, Operands.index_in, Forms.form_of}
 use Rattle.class_link.specs.{ClassNames.name_at, ClassNames.number_or_first, References.LinkEnvironment, References.target_of}
-use Rattle.code_forms.specs.{Operands.index_in, Forms.form_of}
 
 -- what the entries of a pool stand for, from index 1 on, and the one of an index
 abbrev pub targets : LinkEnvironment → List (Option Entry) → List (Option Target)

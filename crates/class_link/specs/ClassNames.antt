@@ -1,15 +1,13 @@
 -- Classes by their names: the built-in ones first, then those of the class files, each by its place (JVMS 4.2.1 and 4.4.1).
 use Rattle.std.specs.Prelude.{ℕ, ◌-◌, List, [], ◌∷◌, ◌++◌, length, map, drop, take, position, unwrap_or, option_map, option_and_then, is_none, Option, Some, None, cond, nat_le, ◌==◌, if◌then◌else◌}
-use Rattle.class_pool.specs.declared.pool.Entry.{Entry}
-use Rattle.class_pool.specs.Pool.{entry_of, text_of, class_name_of}
+use Rattle.class_pool.specs.{declared.pool.Entry.Entry, Pool.entry_of, Pool.text_of, Pool.class_name_of}
 use Rattle.class_reader.specs.declared.parts.ClassParts.{ClassParts}
 use Rattle.code_decode.specs.Judging.{dimensions}
 use Rattle.et_base.specs.Names.{starts_array}
-use Rattle.jvm_model.specs.declared.values.{Base.Base, Kind.Kind}
+use Rattle.jvm_model.specs.{declared.values.Base.Base, declared.values.Kind.Kind, Library.builtin_classes}
 use Rattle.jvm_model.specs.declared.values.Base.TheVariants as base
 use Rattle.jvm_model.specs.declared.values.Kind.TheVariants as kind
 use Rattle.std.specs.Str.{bytes_eq}
-use Rattle.jvm_model.specs.Library.{builtin_classes}
 
 -- the text that an index names
 abbrev pub text_at : List (Option Entry) → ℕ → List ℕ

@@ -1,8 +1,7 @@
 -- The faults of linking, each by itself.
 use Rattle.std.specs.Prelude.{ℕ, ◌+◌, List, [], ◌∷◌, ◌++◌, length, map, option_and_then, is_some, Option, Some, None, Bool, true, false, not, ◌&&◌, ◌||◌, cond, nat_eq, nat_le}
 use Rattle.std.specs.{List.list_any, List.list_all, List.range_with_len, Str.bytes_eq}
-use Rattle.class_pool.specs.declared.pool.Entry.{Entry}
-use Rattle.class_pool.specs.Pool.{entry_of, is_class}
+use Rattle.class_pool.specs.{declared.pool.Entry.Entry, Pool.entry_of, Pool.is_class}
 use Rattle.class_reader.specs.declared.parts.ClassParts.{ClassParts}
 use Rattle.et_base.specs.Names.{starts_array}
 use Rattle.jvm_model.specs.declared.program.{Program.Program, TestEntry.TestEntry}
@@ -11,10 +10,9 @@ use Rattle.jvm_model.specs.{Library.builtin_classes, RowsCreate.is_bare, Driver.
 use Rattle.jvm_model.specs.Classes.{class_at, method_at, is_static, is_interface, is_below, member, init_name}
 use Rattle.class_link.specs.declared.{fault.LinkFault.LinkFault, lines.TestLine.TestLine}
 use Rattle.class_link.specs.declared.fault.LinkFault.TheVariants as fault
-use Rattle.code_forms.specs.declared.references.{Use.Use, Target.Target}
+use Rattle.code_forms.specs.{declared.references.Use.Use, declared.references.Target.Target, Uses.fits}
 use Rattle.class_link.specs.ClassNames.{name_at, own_name, class_number, number_or_first, missing}
 use Rattle.class_link.specs.References.{LinkEnvironment, target_of, missing_for, uses}
-use Rattle.code_forms.specs.Uses.{fits}
 
 -- the first of what f gives for the items
 abbrev pub first_some : {A B : Type 0} → (A → Option B) → List A → Option B

@@ -1,7 +1,6 @@
 -- Methods whose bodies are put in one after another.
 use Rattle.std.specs.Prelude.{ℕ, ◌+◌, List, [], ◌∷◌, get_or, set, Option}
-use Rattle.jvm_model.specs.declared.program.{Body.Body, MethodRec.MethodRec}
-use Rattle.jvm_model.specs.Classes.{no_method}
+use Rattle.jvm_model.specs.{declared.program.Body.Body, declared.program.MethodRec.MethodRec, Classes.no_method}
 
 -- the methods where the one of number m has this body
 abbrev pub with_body : List MethodRec → ℕ → Option Body → List MethodRec

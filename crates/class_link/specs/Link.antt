@@ -3,8 +3,7 @@ use Rattle.std.specs.Prelude.{◌≡◌, ℕ, zero, suc, ◌+◌, ◌<◌, ◌�
 use Rattle.std.specs.List.{list_all}
 use Rattle.et_base.specs.Answers.{◌>>=◌}
 use Rattle.class_reader.specs.declared.parts.ClassParts.{ClassParts}
-use Rattle.jvm_model.specs.declared.program.{Program.Program, TestEntry.TestEntry}
-use Rattle.jvm_model.specs.{Builtin.builtin_count, Linked.is_word, Suite.suite_limit}
+use Rattle.jvm_model.specs.{declared.program.Program.Program, declared.program.TestEntry.TestEntry, Builtin.builtin_count, Linked.is_word, Suite.suite_limit}
 use Rattle.class_link.specs.declared.{fault.LinkFault.LinkFault, lines.TestLine.TestLine, lines.TestLines.TestLines}
 use Rattle.class_link.specs.declared.fault.LinkFault.TheVariants as fault
 use Rattle.class_link.specs.{ClassNames.own_name, ClassNames.all_names, Literals.literals, Assembly.assembled, Assembly.skeleton, References.LinkEnvironment}

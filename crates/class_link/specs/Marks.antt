@@ -1,16 +1,13 @@
 -- What is noted of the entries of a pool by their indices.
 use Rattle.std.specs.Prelude.{◌≡◌, ℕ, ◌-◌, ◌<◌, List, [], ◌∷◌, length, fold, Bool, true, false, ◌&&◌, cond, nat_eq, slice_index_or, slice_set, Option, Some, None}
 use Rattle.std.specs.List.{list_all}
-use Rattle.class_pool.specs.declared.pool.Entry.{Entry}
-use Rattle.class_pool.specs.Pool.{entry_of, is_class}
+use Rattle.class_pool.specs.{declared.pool.Entry.Entry, Pool.entry_of, Pool.is_class}
 use Rattle.class_reader.specs.declared.parts.ClassParts.{ClassParts}
-use Rattle.jvm_model.specs.declared.program.Program.{Program}
-use Rattle.jvm_model.specs.Classes.{member}
+use Rattle.jvm_model.specs.{declared.program.Program.Program, Classes.member}
 use Rattle.class_link.specs.declared.{fault.LinkFault.LinkFault, uses.User.User}
 use Rattle.class_link.specs.declared.fault.LinkFault.TheVariants as fault
-use Rattle.code_forms.specs.declared.references.{Use.Use, Target.Target}
+use Rattle.code_forms.specs.{declared.references.Use.Use, declared.references.Target.Target, Uses.fits}
 use Rattle.class_link.specs.{ClassNames.own_name, References.LinkEnvironment, References.missing_for, Bodies.target_in, Faults.missing_or, Faults.wrong_unless}
-use Rattle.code_forms.specs.Uses.{fits}
 
 -- the table says of each index below its size whether it is among these
 pub record Lists (table : List Bool) (count : ℕ) (indices : List ℕ) : Type 0 where

@@ -1,16 +1,14 @@
 -- What the entries of a pool stand for, and how code uses them (JVMS 5.4.3 and 6.5).
 use Rattle.std.specs.Prelude.{ℕ, List, [], ◌∷◌, ◌++◌, flat_map, option_map, Option, Some, None, cond, nat_eq}
-use Rattle.class_pool.specs.declared.pool.Entry.{Entry}
+use Rattle.class_pool.specs.{declared.pool.Entry.Entry, Pool.entry_of}
 use Rattle.class_pool.specs.declared.pool.Entry.TheVariants as entry
-use Rattle.class_pool.specs.Pool.{entry_of}
 use Rattle.code_decode.specs.declared.instructions.RawOp.{RawOp}
 use Rattle.class_reader.specs.declared.parts.{ClassParts.ClassParts, CodePart.CodePart, RawHandler.RawHandler}
 use Rattle.jvm_model.specs.declared.values.{Kind.Kind, Value.TheVariants.Int, Value.TheVariants.Long, Value.TheVariants.Lit}
 use Rattle.jvm_model.specs.{Selection.named_class, Lookup.find_field, Lookup.find_method, Lookup.lacks_method}
-use Rattle.code_forms.specs.declared.references.{Use.Use, Target.Target}
+use Rattle.code_forms.specs.{declared.references.Use.Use, declared.references.Target.Target, Operands.index_in, Uses.use_of}
 use Rattle.code_forms.specs.declared.references.Use.TheVariants as used
 use Rattle.code_forms.specs.declared.references.Target.TheVariants as target
-use Rattle.code_forms.specs.{Operands.index_in, Uses.use_of}
 pub use Rattle.class_link.specs.declared.link_environment.LinkEnvironment.{LinkEnvironment}
 use Rattle.class_link.specs.{ClassNames.text_at, ClassNames.name_at, ClassNames.missing, ClassNames.kind_of, Literals.literal_number}
 

@@ -2,8 +2,7 @@
 
 ghost use Rattle.std.specs.Prelude.{◌≡◌, ◌≤◌, List, length, IfOk};
 ghost use Rattle.class_reader.specs.declared.parts.{ClassParts.ClassParts, CodePart.CodePart};
-ghost use Rattle.jvm_model.specs.declared.program.Body.{Body};
-ghost use Rattle.jvm_model.specs.Library.{builtin_classes, builtin_fields, builtin_methods};
+ghost use Rattle.jvm_model.specs.{declared.program.Body.Body, Library.builtin_classes, Library.builtin_fields, Library.builtin_methods};
 ghost use Rattle.class_link.specs.{Answers.Gives, Answers.nothing, ClassNames.all_names, Literals.literals, Faults.duplicate_fault, Link.setting, Link.unless};
 ghost use Rattle.class_link.specs.{Assembly.assembled, Assembly.skeleton, Assembly.bodies_of, Filling.filled, Filling.with_body};
 

@@ -2,10 +2,9 @@
 
 ghost use Rattle.std.specs.Prelude.{◌≡◌, ◌+◌, ◌<◌, ◌^◌, IfOk, []};
 ghost use Rattle.jvm_model.specs.Classes.{member};
-ghost use Rattle.class_link.specs.{Answers.Gives, Answers.nothing, Link.unless, Marks.Lists};
+ghost use Rattle.class_link.specs.{Answers.Gives, Answers.nothing, Link.unless, Marks.Lists, Faults.first_some, Faults.missing_or, Faults.wrong_unless};
 ghost use Rattle.class_link.specs.ClassNames as names;
 ghost use Rattle.class_link.specs.Faults as faults;
-ghost use Rattle.class_link.specs.Faults.{first_some, missing_or, wrong_unless};
 
 use crate::entries::name_at;
 use crate::fault::LinkFault;

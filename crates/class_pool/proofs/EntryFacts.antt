@@ -1,11 +1,10 @@
 -- What the indices of a pool name, down to the texts.
 use Rattle.std.proofs.Common.{◌≡◌, ◌<◌, ◌^◌, ◌+◌, ℕ, Bool, true, false, ◌&&◌, List, length, Option, Some, None, refl, ap, inl, inr}
 use Rattle.std.proofs.lemmas.Bool.{and_parts, or_cases}
-use Rattle.class_pool.specs.declared.pool.Entry.{Entry}
+use Rattle.class_pool.specs.{declared.pool.Entry.Entry, PoolGrammar.EntryFits, PoolGrammar.IsPool}
 use Rattle.class_pool.specs.declared.pool.Entry.TheVariants.{Utf8, Class, Str, Field, Method, InterfaceMethod, NameAndType}
 use Rattle.et_base.specs.Names.{is_unqualified, is_method_name, is_class_name, is_class_entry_name, is_field_descriptor, is_method_descriptor, starts_array}
 use Rattle.class_pool.specs.Pool.{entry_of, is_text, is_class, text_of, in_text, in_pair}
-use Rattle.class_pool.specs.PoolGrammar.{EntryFits, IsPool}
 use Rattle.class_pool.proofs.PoolFacts.{wants_none, entry_fits, entry_indices, class_named, field_class, field_pair, method_class, method_pair, interface_method_class, interface_method_pair}
 
 -- ---- what an index may name

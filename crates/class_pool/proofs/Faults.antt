@@ -1,9 +1,8 @@
 -- Which faults a reader can have.
 use Rattle.std.proofs.Common.{◌≡◌, ℕ, zero, suc, Bool, true, false, cond, ltb, List, [], ◌∷◌, ◌++◌, length, take, drop, Result, Ok, Err, refl, subst}
 use Rattle.std.specs.Int.{Width, byte_len, from_be_bytes}
-use Rattle.class_pool.specs.declared.fault.Fault.{Fault}
+use Rattle.class_pool.specs.{declared.fault.Fault.Fault, Reading.number_or, Reading.run_or, Loops.counted}
 use Rattle.et_base.specs.Answers.{◌>>=◌}
-use Rattle.class_pool.specs.{Reading.number_or, Reading.run_or, Loops.counted}
 
 -- each fault of a reader is of this sort
 abbrev pub Refuses : {A : Type 0} → (Fault → Type 0) → (List ℕ → Result A Fault) → Type 0

@@ -1,8 +1,7 @@
 -- What holds of each item that a grammar spells.
 use Rattle.std.proofs.Common.{◌≡◌, ◌<◌, ◌+◌, ℕ, zero, suc, List, [], ◌∷◌, ◌++◌, length, take, get_or, sym, ap, subst, ◌∙◌, append_assoc, arith, All}
 use Rattle.std.specs.List.{AllByRecursion}
-use Rattle.std.proofs.lemmas.List.{append-nil}
-use Rattle.std.proofs.lemmas.List.Elements.{All-from_recursion}
+use Rattle.std.proofs.lemmas.List.{append-nil, Elements.All-from_recursion}
 use Rattle.class_pool.specs.Grammar.{Joined, Chain, Counted}
 
 -- each item is so behind those before it

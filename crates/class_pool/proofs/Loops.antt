@@ -1,9 +1,8 @@
 -- Reading items one after the other, as a loop does.
 use Rattle.std.proofs.Common.{◌≡◌, ℕ, zero, suc, ◌-◌, ◌+◌, ◌≤◌, ◌<◌, List, [], ◌∷◌, ◌++◌, length, Result, Ok, sym, ap, ◌∙◌, arith}
-use Rattle.class_pool.specs.declared.fault.{Fault.Fault, ReadError.ReadError}
+use Rattle.class_pool.specs.{declared.fault.Fault.Fault, declared.fault.ReadError.ReadError, Reading.named, Loops.counted, Loops.to_end, Loops.folded}
 use Rattle.class_pool.specs.declared.fault.ReadError.TheVariants as errors
 use Rattle.et_base.specs.Answers.{◌>>=◌, Fails}
-use Rattle.class_pool.specs.{Reading.named, Loops.counted, Loops.to_end, Loops.folded}
 
 -- ---- as many as a count says
 

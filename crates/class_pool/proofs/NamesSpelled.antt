@@ -1,8 +1,7 @@
 -- Descriptors: what is read of them is their grammar, and the other way.
 use Rattle.std.proofs.{Math.Bool.or-true, lemmas.List.Sums.sum_by-cons, lemmas.Slice.Eq.bytes_eq-Decides, Math.ListN.replicate}
-use Rattle.std.specs.{Str.bytes_eq, Option.option_and_then, Option.option_map}
+use Rattle.std.specs.{Str.bytes_eq, Option.option_and_then, Option.option_map, List.AllByRecursion, List.position_or_len, List.concat, List.sum_by}
 use Rattle.std.proofs.Common.{◌≡◌, ℕ, zero, suc, ◌+◌, ◌<◌, ◌≤◌, Bool, true, false, not, cond, eqb, ltb, leb, ◌&&◌, ◌||◌, ◌⊎◌, inl, inr, List, [], ◌∷◌, ◌++◌, length, take, drop, Option, Some, None, refl, sym, ap, subst, ◌∙◌, append_assoc, arith, position, add-zero, IsTrue, IfSome, ◌↔◌}
-use Rattle.std.specs.List.{AllByRecursion, position_or_len, concat, sum_by}
 use Rattle.std.proofs.lemmas.Bool.{eqb-true, ltb-true, lt-ltb, leb-true, le-leb, ltb-false, le-ltb, and_parts, or_cases}
 use Rattle.std.proofs.lemmas.List.{take_at, drop_at, length-append, append-nil, length-replicate}
 use Rattle.et_base.specs.Names.{is_plain, is_class_name, is_base, after_class, after_element, after_type, ends, is_field_descriptor, after_close, closed, argument, arguments, argument_units, is_return, units_of_type}

@@ -1,11 +1,10 @@
 -- What is known of an entry of a pool.
 use Rattle.std.proofs.Common.{◌≡◌, ℕ, zero, suc, Bool, true, false, List, length, Option, Some, None, refl, subst, inl, inr, All, ◌<◌, is_some, is_none, not, take, slice_index_or, append_assoc, ◌∷◌, ◌++◌, [], arith, sym, ap, ◌∙◌, add-one, ◌-◌, Bor, option_copied}
 use Rattle.std.proofs.lemmas.{Bool.cases_lt, Bool.not-true, List.get_or_past, List.append-nil, List.take_more}
-use Rattle.class_pool.specs.declared.pool.Entry.{Entry}
-use Rattle.class_pool.specs.declared.pool.Entry.TheVariants.{Class, Field, Method, InterfaceMethod}
+use Rattle.class_pool.specs.declared.pool.Entry.{Entry, TheVariants.Class, TheVariants.Field, TheVariants.Method, TheVariants.InterfaceMethod}
+use Rattle.class_pool.specs.PoolGrammar.{EntryFits, Laid, IsPool}
 use Rattle.et_base.specs.Names.{is_class_entry_name}
 use Rattle.class_pool.specs.Pool.{entry_of, is_wide, is_second, NamesEntry, is_class, in_text, is_field_pair, is_method_pair, wants_at, wrong_index, wrong_name}
-use Rattle.class_pool.specs.PoolGrammar.{EntryFits, Laid, IsPool}
 use Rattle.class_pool.proofs.{PoolSteps.is_second-push, WriteLaw.SlotFits, WriteLaw.slots_fit}
 
 -- what holds of each slot holds of the entry that an index names

@@ -2,10 +2,9 @@
 use Rattle.std.proofs.Common.{◌≡◌, ℕ, ◌-◌, eqb, ltb, ◌&&◌, List, [], length, Option, Some, None, Result, Ok, Err, subst}
 use Rattle.std.specs.Int.{Width, w8, w16, w32, w64, cast_signed}
 use Rattle.et_base.specs.{UtfReading.units_read, Answers.◌>>=◌}
-use Rattle.class_pool.specs.declared.{fault.Fault.Fault, pool.Entry.Entry}
+use Rattle.class_pool.specs.{declared.fault.Fault.Fault, declared.pool.Entry.Entry, Reading.number_at, Reading.run_at, Offsets.IsPoolFault}
 use Rattle.class_pool.specs.declared.fault.Fault.TheVariants.{Truncated, BadTag, BadUtf, BadIndex, BadDescriptor}
 use Rattle.class_pool.specs.declared.pool.Entry.TheVariants.{Utf8, Integer, Float, Long, Double, Class, Str, Field, Method, InterfaceMethod, NameAndType, MethodHandle, MethodType, InvokeDynamic}
-use Rattle.class_pool.specs.{Reading.number_at, Reading.run_at, Offsets.IsPoolFault}
 use Rattle.class_pool.specs.Pool.{units_or, text_at, single_at, twin_at, handle_at, twins_at, singles_at, numbers_at, body_at, entry_at, slot_by, slot_at, is_second, slots_at, wrong_index, wrong_name, pass, no_place, indices_pass, names_pass, pool_at}
 use Rattle.class_pool.proofs.Faults.{Refuses, bind_refuses, refuses_then, refuses_mapped, refuses_if, refuses_never, refuses_number, refuses_run, refuses_counted}
 

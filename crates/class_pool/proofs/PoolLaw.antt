@@ -5,10 +5,9 @@ use Rattle.std.proofs.lemmas.{Bool.eqb-true, Bool.ltb-true, Bool.lt-ltb, Bool.an
 use Rattle.std.proofs.lemmas.List.Elements.{All-nil, All-head, All-tail, All-cons}
 use Rattle.et_base.specs.{Utf.utf, Utf.IsUnits, UtfReading.units_read, Answers.◌>>=◌}
 use Rattle.et_base.proofs.UtfLaws.{units_read-utf, spells_from_read, utf_bytes, IsByte}
-use Rattle.class_pool.specs.declared.fault.{Fault.Fault, Fault.TheVariants.BadTag, Fault.TheVariants.BadIndex, Fault.TheVariants.BadDescriptor}
-use Rattle.class_pool.specs.declared.pool.Entry.{Entry}
+use Rattle.class_pool.specs.declared.fault.Fault.{Fault, TheVariants.BadTag, TheVariants.BadIndex, TheVariants.BadDescriptor}
+use Rattle.class_pool.specs.{declared.pool.Entry.Entry, Reading.number_at, Reading.run_at}
 use Rattle.class_pool.specs.declared.pool.Entry.TheVariants.{Utf8, Integer, Float, Long, Double, Class, Str, Field, Method, InterfaceMethod, NameAndType, MethodHandle, MethodType, InvokeDynamic}
-use Rattle.class_pool.specs.Reading.{number_at, run_at}
 use Rattle.class_pool.specs.Pool.{units_or, text_at, single_at, twin_at, handle_at, twins_at, singles_at, numbers_at, body_at, entry_at, slot_by, slot_at, is_second, is_wide, slot_len, slots_at, wrong_index, wrong_name, found_at, pass, no_place, indices_pass, names_pass, pool_at}
 use Rattle.class_pool.specs.Grammar.{IsBytes, Nothing, Then, Mapped, Never, Number, Signed, Run, Counted, Joined}
 use Rattle.class_pool.specs.PoolGrammar.{entry_bytes, EntryFits, EntryText, SlotText, IsSound, PoolText}

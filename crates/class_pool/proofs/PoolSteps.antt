@@ -1,7 +1,6 @@
 -- Facts on slots that the loops over the pool use.
 use Rattle.std.proofs.Common.{◌≡◌, ℕ, ◌-◌, List, [], ◌∷◌, ◌++◌, Option, refl, ap}
-use Rattle.class_pool.specs.declared.pool.Entry.{Entry}
-use Rattle.class_pool.specs.{Loops.counted, Pool.slot_at, Pool.slots_at, Pool.is_second, Pool.is_wide}
+use Rattle.class_pool.specs.{declared.pool.Entry.Entry, Loops.counted, Pool.slot_at, Pool.slots_at, Pool.is_second, Pool.is_wide}
 
 pub is_second-push : (slots : List (Option Entry)) (slot : Option Entry) → is_second (slots ++ slot ∷ []) ≡ is_wide slot
 is_second-push [] slot = refl

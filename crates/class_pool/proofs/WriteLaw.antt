@@ -2,8 +2,7 @@
 use Rattle.std.proofs.Common.{ℕ, ◌+◌, List, [], ◌∷◌, ◌++◌, length, Option, Some, None, refl, arith, All}
 use Rattle.std.specs.List.{flat_map, AllByRecursion}
 use Rattle.std.proofs.{lemmas.List.Elements.All-from_recursion, lemmas.List.Concat.flat_map-cons}
-use Rattle.class_pool.specs.declared.pool.Entry.{Entry}
-use Rattle.class_pool.specs.Grammar.{Joined}
+use Rattle.class_pool.specs.{declared.pool.Entry.Entry, Grammar.Joined}
 use Rattle.class_pool.specs.PoolGrammar.{SlotText, EntryFits, PoolText, slot_bytes, Laid, IsPool, pool_spelling}
 
 pub laid_joined : (before slots : List (Option Entry)) → Laid before slots → Joined SlotText before (flat_map slot_bytes slots) slots

@@ -1,10 +1,9 @@
 -- A pool that begins at an offset in bytes, and the offset of its first fault.
 use Rattle.std.specs.Prelude.{◌≡◌, ℕ, ◌+◌, ◌-◌, List, ◌++◌, length, drop, Option, Some, None, Result, Ok, Err}
 use Rattle.et_base.specs.Answers.{Gives}
-use Rattle.class_pool.specs.declared.{fault.Fault.Fault, pool.Entry.Entry, offsets.PoolFault.PoolFault}
+use Rattle.class_pool.specs.{declared.fault.Fault.Fault, declared.pool.Entry.Entry, declared.offsets.PoolFault.PoolFault, Pool.pool_at, PoolGrammar.PoolText}
 use Rattle.class_pool.specs.declared.fault.Fault.TheVariants as faults
 use Rattle.class_pool.specs.declared.offsets.PoolFault.TheVariants.{Truncated, BadTag, BadIndex, BadUtf, BadDescriptor, NoMemory}
-use Rattle.class_pool.specs.{Pool.pool_at, PoolGrammar.PoolText}
 
 -- the faults that a pool can have
 abbrev pub IsPoolFault : Fault → Type 0

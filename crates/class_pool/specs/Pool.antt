@@ -2,11 +2,9 @@
 use Rattle.std.specs.Prelude.{ℕ, zero, suc, ◌+◌, ◌-◌, List, [], ◌∷◌, length, Option, Some, None, Result, Ok, Err, Bool, true, false, nat_lt, nat_le, ◌==◌, ◌&&◌, ◌||◌, slice_index_or, if◌then◌else◌, ◌<◌, ◌≤◌, ◌≡◌}
 use Rattle.std.specs.Int.{w8, w16, w32, w64, cast_signed}
 use Rattle.et_base.specs.{Utf.utf, UtfReading.units_read, Answers.◌>>=◌}
-use Rattle.class_pool.specs.declared.fault.Fault.{Fault}
-use Rattle.class_pool.specs.declared.fault.Fault.TheVariants.{BadTag, BadIndex, BadUtf, BadDescriptor}
-use Rattle.class_pool.specs.declared.pool.Entry.{Entry}
+use Rattle.class_pool.specs.declared.fault.Fault.{Fault, TheVariants.BadTag, TheVariants.BadIndex, TheVariants.BadUtf, TheVariants.BadDescriptor}
+use Rattle.class_pool.specs.{declared.pool.Entry.Entry, Reading.number_at, Reading.run_at, Loops.counted}
 use Rattle.class_pool.specs.declared.pool.Entry.TheVariants.{Utf8, Integer, Float, Long, Double, Class, Str, Field, Method, InterfaceMethod, NameAndType, MethodHandle, MethodType, InvokeDynamic}
-use Rattle.class_pool.specs.{Reading.number_at, Reading.run_at, Loops.counted}
 use Rattle.et_base.specs.Names.{is_unqualified, is_method_name, is_class_entry_name, is_field_descriptor, is_method_descriptor}
 
 -- ---- entries

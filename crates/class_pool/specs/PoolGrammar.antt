@@ -3,9 +3,8 @@ use Rattle.std.specs.Prelude.{◌≡◌, ◌<◌, ◌^◌, ℕ, ◌+◌, ◌-◌
 use Rattle.std.specs.{List.flat_map, Int.RustNames.FitsSigned}
 use Rattle.std.specs.Int.{w8, w16, w32, w64, to_be_bytes, cast_unsigned}
 use Rattle.et_base.specs.Utf.{utf, IsUnits}
-use Rattle.class_pool.specs.declared.pool.Entry.{Entry}
+use Rattle.class_pool.specs.{declared.pool.Entry.Entry, Grammar.Joined, Pool.is_second, Pool.is_wide, Pool.wrong_index, Pool.wrong_name}
 use Rattle.class_pool.specs.declared.pool.Entry.TheVariants.{Utf8, Integer, Float, Long, Double, Class, Str, Field, Method, InterfaceMethod, NameAndType, MethodHandle, MethodType, InvokeDynamic}
-use Rattle.class_pool.specs.{Grammar.Joined, Pool.is_second, Pool.is_wide, Pool.wrong_index, Pool.wrong_name}
 
 -- a tag and two indices
 abbrev pub twin_bytes : ℕ → ℕ → ℕ → List ℕ

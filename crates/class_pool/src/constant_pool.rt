@@ -1,8 +1,7 @@
 //! The constant pool as a type that keeps the conditions of its grammar.
 
 ghost use Rattle.std.specs.Prelude.{◌≡◌, ◌↔◌, List, Option, IsSome, option_copied};
-ghost use Rattle.class_pool.specs.{Reading.Gives, PoolGrammar.IsPool};
-ghost use Rattle.class_pool.specs.Pool.{entry_of, NamesEntry, pool_at};
+ghost use Rattle.class_pool.specs.{Reading.Gives, PoolGrammar.IsPool, Pool.entry_of, Pool.NamesEntry, Pool.pool_at};
 
 use crate::fault::ReadError;
 use crate::fields::u16_at;

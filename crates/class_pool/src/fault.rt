@@ -2,8 +2,7 @@
 
 ghost use Rattle.std.specs.Prelude.{◌≡◌};
 ghost use Rattle.et_base.specs.Answers.{tested, nothing};
-ghost use Rattle.class_pool.specs.Reading.{Gives};
-ghost use Rattle.class_pool.specs.declared.fault.ReadError.TheVariants.{Memory};
+ghost use Rattle.class_pool.specs.{declared.fault.ReadError.TheVariants.Memory, Reading.Gives};
 
 use et_base::NoMemory;
 use std::alloc::{AllocError, AllocFailed};

@@ -1,9 +1,8 @@
 //! Pools read at an offset, with faults by their offsets.
 
 ghost use Rattle.std.specs.Prelude.{◌≡◌, ℕ, ◌^◌, ◌<◌, ◌+◌, ◌-◌, ◌++◌, List, length, drop, IfOk, Ok, Option};
-ghost use Rattle.class_pool.specs.PoolGrammar.{PoolText};
+ghost use Rattle.class_pool.specs.{declared.pool.Entry.Entry, PoolGrammar.PoolText};
 ghost use Rattle.class_pool.specs.Offsets.{IsPoolFault, place, pool_fault, read_from, SpelledFrom, PoolGives};
-ghost use Rattle.class_pool.specs.declared.pool.Entry.{Entry};
 
 use crate::constant_pool::{Pool, pool_at};
 use crate::fault::{Fault, ReadError};

@@ -1,8 +1,7 @@
 -- What holds of what is read of attributes, and of indices.
 use Rattle.std.proofs.Common.{◌≡◌, ◌<◌, ◌^◌, ℕ, Bool, true, List, Option, None, sym, ap, subst, ◌∙◌}
 use Rattle.std.specs.Prelude.{IfSome}
-use Rattle.class_pool.specs.declared.pool.Entry.{Entry}
-use Rattle.class_pool.specs.Pool.{entry_of}
+use Rattle.class_pool.specs.{declared.pool.Entry.Entry, Pool.entry_of}
 use Rattle.class_pool.proofs.{Laws.chosen, GrammarFacts.chain_keeps}
 use Rattle.class_reader.specs.{Indices.Index, Indices.Form, ClassGrammar.OnceText, ClassGrammar.AttributeText, ClassGrammar.AttributesText}
 

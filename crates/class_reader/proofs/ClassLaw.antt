@@ -2,17 +2,15 @@
 use Rattle.std.proofs.Common.{◌≡◌, ℕ, ◌+◌, Bool, not, eqb, ltb, leb, ◌&&◌, List, [], ◌++◌, length, Option, Some, None, is_some, Result, Ok, Err, refl, sym, ap, subst, ◌∙◌, append_assoc}
 use Rattle.std.specs.Int.{w16, w32}
 use Rattle.std.proofs.lemmas.{Bool.eqb-true, List.append-nil, List.nil_from_length}
-use Rattle.class_pool.specs.declared.{fault.Fault.Fault, pool.Entry.Entry}
+use Rattle.class_pool.specs.{declared.fault.Fault.Fault, declared.pool.Entry.Entry, Reading.number_at, Reading.run_at, Loops.counted, Loops.folded}
 use Rattle.class_pool.specs.declared.fault.Fault.TheVariants.{Truncated, BadMagic, BadVersion, BadLength, Repeated, CodeKind, Trailing}
 use Rattle.et_base.specs.Answers.{◌>>=◌, tested}
-use Rattle.class_pool.specs.{Reading.number_at, Reading.run_at, Loops.counted, Loops.folded, PoolGrammar.PoolText}
-use Rattle.class_pool.specs.Pool.{entry_of, is_text, is_class, pool_at}
+use Rattle.class_pool.specs.{PoolGrammar.PoolText, Pool.entry_of, Pool.is_text, Pool.is_class, Pool.pool_at}
 use Rattle.class_pool.specs.Grammar.{IsBytes, Nothing, Then, Mapped, Tested, Run, Sized}
 use Rattle.class_pool.proofs.Laws.{bind_ok, ok_is, tested_ok, Reads, reads_nothing, reads_then, tested_then, reads_mapped, reads_if, reads_run, reads_16, reads_32, reads_counted, reads_folded, reads_sized}
 use Rattle.class_pool.proofs.PoolLaw.{reads_pool}
 use Rattle.class_reader.proofs.{HandlerLaw.reads_handlers, MapLaw.reads_map, IndexLaw.reads_index, IndexLaw.reads_form}
-use Rattle.code_decode.specs.declared.decoding.Code.{Code}
-use Rattle.code_decode.specs.{CodeGrammar.CodeText, Decoding.code_at}
+use Rattle.code_decode.specs.{declared.decoding.Code.Code, CodeGrammar.CodeText, Decoding.code_at}
 use Rattle.code_decode.proofs.WholeLaw.{code_takes, code_again}
 use Rattle.class_reader.specs.declared.parts.{CodePart.CodePart, MemberPart.MemberPart, ClassParts.ClassParts}
 use Rattle.class_reader.specs.{Handlers.handlers_at, Handlers.HandlersText, Maps.map_at, MapGrammar.MapText, Indices.index_at, Indices.form_at, Indices.Index}

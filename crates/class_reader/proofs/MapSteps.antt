@@ -1,9 +1,8 @@
 -- The entries of a stack map, one after the other, as a loop reads them.
 use Rattle.std.proofs.Common.{◌≡◌, ℕ, suc, ◌-◌, ◌+◌, ◌≤◌, ◌<◌, true, false, cond, List, [], ◌∷◌, ◌++◌, take, Option, Result, Ok, sym, ap, ◌∙◌, arith}
-use Rattle.class_pool.specs.declared.{fault.Fault.Fault, fault.ReadError.ReadError, pool.Entry.Entry}
+use Rattle.class_pool.specs.{declared.fault.Fault.Fault, declared.fault.ReadError.ReadError, declared.pool.Entry.Entry, Reading.named}
 use Rattle.class_pool.specs.declared.fault.ReadError.TheVariants as errors
 use Rattle.et_base.specs.Answers.{◌>>=◌, Fails}
-use Rattle.class_pool.specs.Reading.{named}
 use Rattle.class_reader.specs.declared.parts.MapFrame.{MapFrame}
 use Rattle.class_reader.specs.Maps.{frame_at, has_bad_tag, within, kept_at, frames_at}
 

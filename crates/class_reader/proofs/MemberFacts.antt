@@ -4,9 +4,8 @@ use Rattle.std.proofs.Common.{◌≡◌, ◌<◌, ◌≤◌, ◌^◌, ◌+◌, �
 use Rattle.std.specs.Prelude.{IfSome}
 use Rattle.std.specs.List.{AllByRecursion}
 use Rattle.std.proofs.lemmas.{Bool.cases_lt, Bool.leb-true, Bool.not-true, List.get_or-take, List.length-take}
-use Rattle.class_pool.specs.declared.pool.{Entry.Entry, Entry.TheVariants.Utf8}
-use Rattle.class_pool.specs.Pool.{entry_of, is_text, text_of}
-use Rattle.class_pool.specs.{Grammar.Sized, PoolGrammar.IsPool}
+use Rattle.class_pool.specs.{declared.pool.Entry.Entry, declared.pool.Entry.TheVariants.Utf8, Pool.entry_of, Pool.is_text, Pool.text_of, Grammar.Sized}
+use Rattle.class_pool.specs.PoolGrammar.{IsPool}
 use Rattle.class_pool.proofs.GrammarFacts.{Behind, behind_at, counted_behind, counted_length}
 use Rattle.class_pool.proofs.EntryFacts.{NamesText, text_from}
 use Rattle.et_base.specs.Names.{is_unqualified, is_field_descriptor, is_method_descriptor, argument_units}

@@ -2,13 +2,10 @@
 use Rattle.std.proofs.Common.{◌≡◌, ◌≢◌, ◌⊎◌, ℕ, zero, suc, ◌-◌, ◌%◌, ◌^◌, ◌<◌, ◌≤◌, Bool, true, false, cond, eqb, ltb, ◌&&◌, ◌||◌, List, [], ◌∷◌, length, Option, refl, sym, subst, ◌∙◌, arith, inl, inr, All}
 use Rattle.std.specs.Prelude.{IfSome}
 use Rattle.std.specs.List.{AllByRecursion}
-use Rattle.std.proofs.lemmas.Bool.{eqb-true, ltb-true, and_parts, or_cases}
-use Rattle.std.proofs.lemmas.List.Elements.{All-from_recursion}
-use Rattle.class_pool.specs.declared.pool.Entry.{Entry}
-use Rattle.class_pool.specs.{Pool.entry_of, Pool.is_class, Grammar.IsBytes, Grammar.Sized, PoolGrammar.IsPool}
+use Rattle.std.proofs.lemmas.{Bool.eqb-true, Bool.ltb-true, Bool.and_parts, Bool.or_cases, List.Elements.All-from_recursion}
+use Rattle.class_pool.specs.{declared.pool.Entry.Entry, Pool.entry_of, Pool.is_class, Grammar.IsBytes, Grammar.Sized, PoolGrammar.IsPool}
 use Rattle.class_pool.proofs.{Laws.chosen, GrammarFacts.counted_all, GrammarFacts.counted_length, EntryFacts.NamesClass, EntryFacts.class_from}
-use Rattle.code_decode.specs.declared.decoding.Code.{Code}
-use Rattle.code_decode.specs.Targets.{has_start}
+use Rattle.code_decode.specs.{declared.decoding.Code.Code, Targets.has_start}
 use Rattle.code_decode.proofs.CodeFacts.{CodeFacts, code_facts}
 use Rattle.class_reader.specs.declared.parts.{CodePart.CodePart, RawHandler.RawHandler, MapType.MapType, MapFrame.MapFrame, MapPart.MapPart}
 use Rattle.class_reader.specs.Handlers.{begins_at, ends_at, is_caught, handler_of, RangeText, CatchText, HandlerText, HandlersText}

@@ -7,8 +7,7 @@ use Rattle.std.specs.BTreeSet.{BTreeSet, contains, Updates, IsEmpty}
 use denote.Ref.{Bor}
 use Rattle.std.proofs.lemmas.{Bool.eqb-true, List.take_more, List.length-take, List.map_more}
 use Rattle.std.proofs.{lemmas.Bool.Decides.nat_tests, lemmas.Bool.Decides.same_from_decides, lemmas.Slice.Eq.bytes_eq-Decides}
-use Rattle.class_pool.specs.declared.pool.{Entry.Entry, Entry.TheVariants.Utf8}
-use Rattle.class_pool.specs.Pool.{entry_of, is_text}
+use Rattle.class_pool.specs.{declared.pool.Entry.Entry, declared.pool.Entry.TheVariants.Utf8, Pool.entry_of, Pool.is_text}
 use Rattle.class_reader.specs.declared.{parts.MemberPart.MemberPart, texts.Mark.Mark}
 use Rattle.class_reader.specs.{Names.is_text_of, Names.same_text, Names.is_repeated, Lookups.noted, Lookups.noted_first}
 use Rattle.class_reader.specs.Texts.{first_from, first_of, mark_with, mark_of, key_of, is_same, IsSeen, IsSeenWith}

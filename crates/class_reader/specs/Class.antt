@@ -1,10 +1,9 @@
 -- How a class file is read from left to right, and the first fault.
 use Rattle.std.specs.Prelude.{ℕ, ◌+◌, ◌-◌, List, [], length, Option, Some, None, is_some, Result, Ok, Bool, not, nat_lt, nat_le, ◌==◌, ◌&&◌, if◌then◌else◌}
 use Rattle.std.specs.Int.{w16, w32}
-use Rattle.class_pool.specs.declared.{fault.Fault.Fault, pool.Entry.Entry}
+use Rattle.class_pool.specs.{declared.fault.Fault.Fault, declared.pool.Entry.Entry, Reading.number_at, Reading.run_at, Loops.counted, Loops.folded}
 use Rattle.class_pool.specs.declared.fault.Fault.TheVariants.{BadMagic, BadVersion, BadLength, Repeated, CodeKind, Trailing}
 use Rattle.et_base.specs.Answers.{◌>>=◌, tested}
-use Rattle.class_pool.specs.{Reading.number_at, Reading.run_at, Loops.counted, Loops.folded}
 use Rattle.class_pool.specs.Pool.{entry_of, is_text, is_class, pool_at}
 use Rattle.class_reader.specs.declared.parts.{CodePart.CodePart, MemberPart.MemberPart, ClassParts.ClassParts}
 use Rattle.code_decode.specs.Decoding.{code_at}

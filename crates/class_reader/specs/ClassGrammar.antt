@@ -1,14 +1,11 @@
 -- The grammar of a class file, part by part. Attributes that are skipped are no part of what is spelled.
 use Rattle.std.specs.Prelude.{◌^◌, ℕ, List, [], Option, Some, None, is_some, Bool, not, nat_lt, nat_le, ◌==◌, ◌&&◌, cond}
 use Rattle.std.specs.Int.{w32}
-use Rattle.class_pool.specs.declared.pool.Entry.{Entry}
-use Rattle.class_pool.specs.{Pool.entry_of, Pool.is_text, Pool.is_class, PoolGrammar.PoolText}
+use Rattle.class_pool.specs.{declared.pool.Entry.Entry, Pool.entry_of, Pool.is_text, Pool.is_class, PoolGrammar.PoolText}
 use Rattle.class_pool.specs.Grammar.{Nothing, Then, Mapped, Tested, Number, Run, Counted, Sized, Chain}
-use Rattle.code_decode.specs.declared.decoding.Code.{Code}
-use Rattle.code_decode.specs.CodeGrammar.{CodeText}
+use Rattle.code_decode.specs.{declared.decoding.Code.Code, CodeGrammar.CodeText}
 use Rattle.class_reader.specs.declared.parts.{CodePart.CodePart, RawHandler.RawHandler, MapPart.MapPart, MemberPart.MemberPart, ClassParts.ClassParts}
-use Rattle.class_reader.specs.Indices.{Short, Index, Form}
-use Rattle.class_reader.specs.{Handlers.HandlersText, MapGrammar.MapText}
+use Rattle.class_reader.specs.{Indices.Short, Indices.Index, Indices.Form, Handlers.HandlersText, MapGrammar.MapText}
 use Rattle.class_reader.specs.Names.{is_code, is_constant_value, is_stack_map, is_own_class, is_field_name, is_field_type, is_method_name, is_method_type, fits_constant, is_repeated, fits_flags}
 
 -- ---- attributes (JVMS 4.7)

@@ -2,9 +2,8 @@
 use Rattle.std.specs.Prelude.{◌≡◌, ℕ, ◌-◌, List, length, Result, Ok, Err}
 use Rattle.class_pool.specs.declared.fault.Fault.{Fault}
 use Rattle.class_pool.specs.declared.fault.Fault.TheVariants as inner
-use Rattle.class_reader.specs.declared.{fault.ClassFault.ClassFault, parts.ClassParts.ClassParts}
+use Rattle.class_reader.specs.{declared.fault.ClassFault.ClassFault, declared.parts.ClassParts.ClassParts, Class.class_at}
 use Rattle.class_reader.specs.declared.fault.ClassFault.TheVariants.{BadMagic, BadVersion, Truncated, BadTag, BadIndex, BadUtf, BadLength, BadDescriptor, Repeated, CodeKind, CutCode, Unsupported, BadOperand, BadTarget, Trailing, NoMemory}
-use Rattle.class_reader.specs.Class.{class_at}
 
 -- a place by its offset in a file of total bytes
 abbrev pub shown : ℕ → Fault → ClassFault

@@ -5,10 +5,8 @@ use Rattle.class_pool.specs.declared.{fault.Fault.Fault, fault.Fault.TheVariants
 use Rattle.et_base.specs.Answers.{◌>>=◌, tested}
 use Rattle.class_pool.specs.{Reading.number_at, Loops.counted, Pool.entry_of, Pool.is_class}
 use Rattle.class_pool.specs.Grammar.{Nothing, Then, Mapped, Tested, Counted}
-use Rattle.code_decode.specs.declared.decoding.Code.{Code}
-use Rattle.code_decode.specs.Targets.{is_start}
-use Rattle.class_reader.specs.declared.parts.RawHandler.{RawHandler}
-use Rattle.class_reader.specs.Indices.{Short}
+use Rattle.code_decode.specs.{declared.decoding.Code.Code, Targets.is_start}
+use Rattle.class_reader.specs.{declared.parts.RawHandler.RawHandler, Indices.Short}
 
 -- whether an instruction of the code begins at a place
 abbrev pub begins_at : Code → ℕ → Bool

@@ -3,8 +3,7 @@ use Rattle.std.specs.Prelude.{ℕ, ◌^◌, List, length, Option, Result, Ok, Bo
 use Rattle.std.specs.Int.{w16}
 use Rattle.class_pool.specs.declared.{fault.Fault.Fault, fault.Fault.TheVariants.BadIndex, fault.Fault.TheVariants.BadDescriptor, pool.Entry.Entry}
 use Rattle.et_base.specs.Answers.{◌>>=◌, tested}
-use Rattle.class_pool.specs.{Reading.number_at, Pool.entry_of, Pool.is_text}
-use Rattle.class_pool.specs.Grammar.{Nothing, Then, Tested, Number}
+use Rattle.class_pool.specs.{Reading.number_at, Pool.entry_of, Pool.is_text, Grammar.Nothing, Grammar.Then, Grammar.Tested, Grammar.Number}
 
 -- an index that names an entry of this kind
 unfoldable pub index_at : (Option Entry → Bool) → List (Option Entry) → List ℕ → Result (ℕ × List ℕ) Fault

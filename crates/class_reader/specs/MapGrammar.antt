@@ -3,8 +3,7 @@ use Rattle.std.specs.Prelude.{◌≡◌, ℕ, zero, suc, ◌-◌, ◌%◌, ◌^�
 use Rattle.std.specs.Int.{w8}
 use Rattle.class_pool.specs.declared.pool.Entry.{Entry}
 use Rattle.class_pool.specs.Grammar.{IsBytes, Nothing, Then, Mapped, Never, Tested, Number, Counted, Sized}
-use Rattle.class_reader.specs.declared.parts.{MapType.MapType, MapFrame.MapFrame, MapPart.MapPart}
-use Rattle.class_reader.specs.Indices.{Short, Index}
+use Rattle.class_reader.specs.{declared.parts.MapType.MapType, declared.parts.MapFrame.MapFrame, declared.parts.MapPart.MapPart, Indices.Short, Indices.Index}
 use Rattle.class_reader.specs.Maps.{type_of, frame_of, is_object, is_frame_tag, tells_delta, stack_given, has_bad_tag}
 
 abbrev pub TaggedText : Bool → List (Option Entry) → ℕ → List ℕ → MapType → Type 0

@@ -4,8 +4,7 @@ use Rattle.std.specs.Int.{w8, w16, w32}
 use Rattle.class_pool.specs.declared.{fault.Fault.Fault, fault.Fault.TheVariants.BadLength, pool.Entry.Entry}
 use Rattle.et_base.specs.Answers.{◌>>=◌, tested}
 use Rattle.class_pool.specs.{Reading.number_at, Reading.run_at, Loops.counted, Pool.is_class}
-use Rattle.class_reader.specs.declared.parts.{MapType.MapType, MapFrame.MapFrame, MapPart.MapPart}
-use Rattle.class_reader.specs.Indices.{index_at}
+use Rattle.class_reader.specs.{declared.parts.MapType.MapType, declared.parts.MapFrame.MapFrame, declared.parts.MapPart.MapPart, Indices.index_at}
 
 abbrev pub type_of : ℕ → ℕ → MapType
 type_of tag arg = record { tag = tag; arg = arg }

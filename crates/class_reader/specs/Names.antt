@@ -1,9 +1,8 @@
 -- What an index of a class file must name, place by place.
 use Rattle.std.specs.Prelude.{ℕ, ◌+◌, List, [], ◌∷◌, Option, Some, None, Bool, false, not, nat_le, ◌==◌, ◌&&◌, ◌||◌, codes, bit_and, if◌then◌else◌}
 use Rattle.std.specs.Str.{bytes_eq}
-use Rattle.class_pool.specs.declared.pool.Entry.{Entry}
+use Rattle.class_pool.specs.{declared.pool.Entry.Entry, Pool.entry_of, Pool.in_text}
 use Rattle.class_pool.specs.declared.pool.Entry.TheVariants.{Utf8, Integer, Float, Long, Double, Class, Str}
-use Rattle.class_pool.specs.Pool.{entry_of, in_text}
 use Rattle.et_base.specs.Names.{is_unqualified, is_field_descriptor, argument_units}
 use Rattle.et_base.specs.Names as names
 use Rattle.class_reader.specs.declared.{parts.MemberPart.MemberPart, names.Form.Form}

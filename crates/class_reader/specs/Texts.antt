@@ -1,8 +1,7 @@
 -- What tests say of the texts of a pool, each text looked at once.
 use Rattle.std.specs.Prelude.{◌≡◌, ℕ, ◌+◌, ◌*◌, ◌^◌, ◌<◌, length, map, List, [], ◌∷◌, Option, Some, None, unwrap_or, Bool, true, ◌&&◌, ◌||◌, if◌then◌else◌}
 use Rattle.std.specs.{Ordering.nat_cmp, BTreeSet.BTreeSet, BTreeSet.contains}
-use Rattle.class_pool.specs.declared.pool.{Entry.Entry, Entry.TheVariants.Utf8}
-use Rattle.class_pool.specs.Pool.{entry_of, is_text}
+use Rattle.class_pool.specs.{declared.pool.Entry.Entry, declared.pool.Entry.TheVariants.Utf8, Pool.entry_of, Pool.is_text}
 use Rattle.et_base.specs.Names.{argument_units}
 use Rattle.class_reader.specs.declared.{parts.MemberPart.MemberPart, texts.Mark.Mark}
 use Rattle.class_reader.specs.Names.{is_text_of, same_text, is_repeated, is_field_name, is_field_type, is_method_name}

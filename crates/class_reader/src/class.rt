@@ -2,9 +2,8 @@
 
 ghost use Rattle.std.specs.Prelude.{◌≡◌, ◌<◌, ◌^◌, length, IfOk, Ok, List, Option};
 ghost use Rattle.class_pool.specs.{Pool.is_class, Reading.Gives};
-ghost use Rattle.class_reader.specs.declared.parts.ClassParts.{ClassParts};
+ghost use Rattle.class_reader.specs.{declared.parts.ClassParts.ClassParts, Indices.index_at, ClassGrammar.class_bytes};
 ghost use Rattle.class_reader.specs.Class.{head_at, interfaces_at, members_at, body_at, class_at};
-ghost use Rattle.class_reader.specs.{Indices.index_at, ClassGrammar.class_bytes};
 ghost use Rattle.class_reader.specs.Faults.{shown, class_of, Answers};
 
 use crate::attributes::after_all;

@@ -1,8 +1,7 @@
 //! Handler tables (JVMS 4.7.3).
 
 ghost use Rattle.std.specs.Prelude.{◌≡◌};
-ghost use Rattle.class_pool.specs.Reading.{Gives};
-ghost use Rattle.class_pool.specs.declared.fault.Fault.TheVariants.{BadTarget};
+ghost use Rattle.class_pool.specs.{declared.fault.Fault.TheVariants.BadTarget, Reading.Gives};
 ghost use Rattle.code_decode.specs.Targets.{Marks};
 ghost use Rattle.class_reader.specs.Handlers.{begins_at, ends_at, is_caught, range_at, catch_at, handler_at, handlers_at};
 

@@ -2,9 +2,8 @@
 
 ghost use Rattle.std.specs.Prelude.{◌≡◌, ℕ, ◌<◌, ◌^◌, ◌||◌, true, not, length, map, List, IfOk, IfErr, OnOk, if◌then◌else◌};
 ghost use Rattle.std.specs.{Option.option_or, Str.bytes_eq};
-ghost use Rattle.class_pool.specs.{Pool.entry_of, Pool.is_text, Reading.Gives};
+ghost use Rattle.class_pool.specs.{declared.fault.Fault.TheVariants.Repeated, Pool.entry_of, Pool.is_text, Reading.Gives};
 ghost use Rattle.et_base.specs.Answers.{nothing, tested};
-ghost use Rattle.class_pool.specs.declared.fault.Fault.TheVariants.{Repeated};
 ghost use Rattle.class_reader.specs.Texts.{first_of, mark_with, mark_of, key_of};
 ghost use Rattle.class_reader.specs.{Names.is_text_of, Names.is_repeated, Lookups.noted, Lookups.noted_first};
 

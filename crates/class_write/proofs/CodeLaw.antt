@@ -10,8 +10,7 @@ use Rattle.code_decode.specs.declared.opcodes.Shape.TheVariants as shape
 use Rattle.code_decode.specs.{Opcodes.shape_of, Opcodes.takes_local, Switches.padding, CodeGrammar.CodeText}
 use Rattle.code_decode.specs.Spelling.{number_bytes, signed_bytes, offset_bytes, pair_bytes, one_bytes, two_bytes, table_bytes, lookup_bytes, args_bytes, shaped_bytes, wide_args_bytes, op_bytes, code_spelling}
 use Rattle.code_decode.proofs.{SpellingSwitches.zeros_fit, RespelledLaw.code_respelled}
-use Rattle.class_reader.specs.declared.parts.CodePart.{CodePart}
-use Rattle.class_reader.specs.{Names.is_stack_map, Handlers.HandlersText, MapGrammar.MapText}
+use Rattle.class_reader.specs.{declared.parts.CodePart.CodePart, Names.is_stack_map, Handlers.HandlersText, MapGrammar.MapText}
 use Rattle.class_reader.specs.ClassGrammar.{RunText, part_of, PartText}
 use Rattle.class_write.specs.Spelling.{short_bytes, listed_bytes, sized_bytes, handler_bytes, map_bytes, attribute_bytes, names_of, run_bytes, part_bytes}
 use Rattle.class_write.proofs.PartLaw.{Slots, Shorter, shorter_same, named, attributes_again}

@@ -1,8 +1,7 @@
 -- Stack maps, constants and handlers are spelled in one way.
 use Rattle.std.proofs.Common.{◌≡◌, ℕ, zero, suc, ◌-◌, ◌%◌, Bool, true, false, cond, eqb, ltb, ◌||◌, List, [], ◌∷◌, ◌++◌, length, sym, ap, subst, ◌∙◌, append_assoc, arith}
 use Rattle.std.specs.{List.flat_map, Int.w8, Int.w32, Int.to_be_bytes}
-use Rattle.std.proofs.lemmas.{Bool.eqb-true, List.append-nil}
-use Rattle.std.proofs.lemmas.Bool.Decides.{nat_tests}
+use Rattle.std.proofs.lemmas.{Bool.eqb-true, List.append-nil, Bool.Decides.nat_tests}
 use Rattle.class_pool.specs.{Grammar.Nothing, Grammar.Mapped, Grammar.Never, Pool.entry_of}
 use Rattle.et_base.proofs.Cases.{by_test}
 use Rattle.code_decode.specs.declared.decoding.Code.{Code}

@@ -3,12 +3,10 @@ use Rattle.std.proofs.Common.{◌≡◌, ℕ, ◌+◌, ◌<◌, ◌^◌, List, [
 use Rattle.std.specs.Prelude.{codes}
 use Rattle.std.specs.Int.{w32, to_be_bytes}
 use Rattle.std.proofs.lemmas.List.{append-nil}
-use Rattle.class_pool.specs.{Grammar.Sized, Pool.is_class}
-use Rattle.class_pool.specs.PoolGrammar.{IsPool, PoolText, pool_spelling}
+use Rattle.class_pool.specs.{Grammar.Sized, Pool.is_class, PoolGrammar.IsPool, PoolGrammar.PoolText, PoolGrammar.pool_spelling}
 use Rattle.class_pool.proofs.WriteLaw.{pool_written, pool_kept}
-use Rattle.class_reader.specs.declared.parts.{MemberPart.MemberPart, ClassParts.ClassParts}
+use Rattle.class_reader.specs.{declared.parts.MemberPart.MemberPart, declared.parts.ClassParts.ClassParts, Faults.class_of, Faults.with_offsets, Indices.Index}
 use Rattle.class_reader.specs.Names.{is_code, is_constant_value, is_own_class, is_field_name, is_field_type, is_method_name, is_method_type}
-use Rattle.class_reader.specs.{Faults.class_of, Faults.with_offsets, Indices.Index}
 use Rattle.class_reader.specs.ClassGrammar.{AllSkippedText, ConstantText, PartText, field_of, FieldText, FieldsText, method_of, MethodText, MethodsText, HeadText, InterfacesText, pair_of, MembersText, parts_of, BodyText, class_bytes, IsClass}
 use Rattle.class_reader.proofs.ClassLaw.{class_again}
 use Rattle.class_write.specs.Spelling.{short_bytes, listed_bytes, sized_bytes, attribute_bytes, names_of, part_bytes, field_bytes, method_bytes, head_bytes, body_bytes, class_spelling}

@@ -1,14 +1,11 @@
 -- The bytes of a class file as they are written: the pool as it is, and of the attributes Code, ConstantValue and StackMapTable alone.
 use Rattle.std.specs.Prelude.{ℕ, List, [], ◌++◌, length, Option, Some, None, unwrap_or, codes, ◌==◌, ◌||◌, if◌then◌else◌}
 use Rattle.std.specs.{List.flat_map, Int.w8, Int.w16, Int.w32, Int.to_be_bytes}
-use Rattle.class_pool.specs.declared.pool.Entry.{Entry}
-use Rattle.class_pool.specs.PoolGrammar.{pool_spelling}
-use Rattle.code_decode.specs.declared.decoding.Code.{Code}
-use Rattle.code_decode.specs.Spelling.{code_spelling}
+use Rattle.class_pool.specs.{declared.pool.Entry.Entry, PoolGrammar.pool_spelling}
+use Rattle.code_decode.specs.{declared.decoding.Code.Code, Spelling.code_spelling}
 use Rattle.class_reader.specs.declared.parts.{RawHandler.RawHandler, MapType.MapType, MapFrame.MapFrame, MapPart.MapPart, CodePart.CodePart}
-use Rattle.class_reader.specs.declared.parts.{MemberPart.MemberPart, ClassParts.ClassParts}
+use Rattle.class_reader.specs.{declared.parts.MemberPart.MemberPart, declared.parts.ClassParts.ClassParts, Texts.first_from, Maps.tells_delta}
 use Rattle.class_write.specs.declared.names.Names.{Names}
-use Rattle.class_reader.specs.{Texts.first_from, Maps.tells_delta}
 
 -- ---- parts that many places have
 

@@ -4,12 +4,10 @@ use Rattle.std.specs.List.{list_all, enumerate_from}
 use Rattle.std.specs.Int.{Width, w8, w16, w32, byte_len, cast_signed}
 use lib.Signed.{le_z_yes, lt_z_yes}
 use borrow.Author.Gap.{read_sfits}
-use Rattle.std.proofs.lemmas.Bool.{eq-eqb, ltb-true, leb-true, and_parts}
-use Rattle.std.proofs.{lemmas.Bool.Decides.nat_tests, lemmas.List.FromFn.length-enumerate_from, lemmas.List.FromFn.get_or-enumerate_from}
-use Rattle.std.proofs.lemmas.{Int.ints, List.length-append}
+use Rattle.std.proofs.lemmas.Bool.{eq-eqb, ltb-true, leb-true, and_parts, Decides.nat_tests}
+use Rattle.std.proofs.lemmas.{List.FromFn.length-enumerate_from, List.FromFn.get_or-enumerate_from, Int.ints, List.length-append}
 use Rattle.std.proofs.lemmas.List.Elements.{All-nil, All-push}
-use Rattle.class_pool.specs.declared.pool.Entry.{Entry}
-use Rattle.class_pool.specs.Pool.{entry_of}
+use Rattle.class_pool.specs.{declared.pool.Entry.Entry, Pool.entry_of}
 use Rattle.et_base.proofs.Cases.{implied}
 use Rattle.class_pool.proofs.GrammarFacts.{chain_counts}
 use Rattle.code_decode.specs.declared.{instructions.RawOp.RawOp, judging.Fit.Fit}

@@ -1,13 +1,11 @@
 -- What is known of code that some bytes spell.
 use Rattle.std.proofs.Common.{◌≡◌, ◌⊎◌, ℕ, ◌+◌, ◌^◌, ◌<◌, ◌≤◌, ℤ, true, false, eqb, List, [], ◌∷◌, length, get_or, Option, Some, None, refl, sym, ap, subst, ◌∙◌, arith, inl, inr, All}
 use Rattle.std.specs.{List.AllByRecursion, Int.w16}
-use Rattle.std.proofs.lemmas.{Bool.eqb-true, List.length-append}
-use Rattle.std.proofs.lemmas.List.Elements.{All-from_recursion}
+use Rattle.std.proofs.lemmas.{Bool.eqb-true, List.length-append, List.Elements.All-from_recursion}
 use Rattle.class_pool.specs.declared.pool.Entry.{Entry}
 use Rattle.class_pool.proofs.Laws.{chosen}
 use Rattle.code_decode.specs.declared.{instructions.RawOp.RawOp, decoding.Code.Code, opcodes.Shape.Shape}
-use Rattle.code_decode.specs.{Opcodes.shape_of, Opcodes.takes_local, Instructions.op}
-use Rattle.code_decode.specs.Targets.{is_start, leads, leads_to}
+use Rattle.code_decode.specs.{Opcodes.shape_of, Opcodes.takes_local, Instructions.op, Targets.is_start, Targets.leads, Targets.leads_to}
 use Rattle.code_decode.specs.CodeGrammar.{ShapedText, WideArgsText, WideText, OpText, OpsText, CodeText}
 use Rattle.code_decode.proofs.WholeLaw.{some_bytes}
 use Rattle.code_decode.proofs.ArgFacts.{OneLocal, LocalPlus, ArgFacts, local_facts, increment_facts, arg_facts}

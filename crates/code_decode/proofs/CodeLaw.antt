@@ -2,8 +2,7 @@
 use Rattle.std.proofs.Common.{ℕ, ◌*◌, ◌^◌, Bool, true, false, cond, eqb, ltb, leb, ◌&&◌, List, [], ◌∷◌, ◌++◌, Option, Some, None, Ok, Err, refl}
 use Rattle.std.specs.Prelude.{ℤ, pos, int_le}
 use Rattle.std.specs.Int.{Width, w8, w16, w32, byte_len, cast_signed}
-use Rattle.class_pool.specs.declared.pool.Entry.{Entry}
-use Rattle.class_pool.specs.{Pool.entry_of, Reading.number_or, Reading.run_or, Loops.folded}
+use Rattle.class_pool.specs.{declared.pool.Entry.Entry, Pool.entry_of, Reading.number_or, Reading.run_or, Loops.folded}
 use Rattle.et_base.specs.Answers.{◌>>=◌, tested}
 use Rattle.class_pool.specs.Grammar.{Nothing, Never, Tested, Run, Counted}
 use Rattle.class_pool.proofs.Laws.{IsWide, wide8, wide16, wide32}

@@ -1,15 +1,13 @@
 -- Readers of code: what is taken is spelled so, what is spelled so is taken, and each fault is one of the code, and names its method.
 use Rattle.std.proofs.Common.{◌≡◌, ℕ, zero, suc, ◌^◌, ◌*◌, Bool, true, false, cond, ltb, List, [], ◌∷◌, ◌++◌, length, Result, Ok, Err, refl, subst}
 use Rattle.std.specs.Int.{Width, byte_len}
-use Rattle.class_pool.specs.declared.fault.Fault.{Fault}
+use Rattle.class_pool.specs.{declared.fault.Fault.Fault, Reading.number_or, Reading.run_or, Loops.counted, Loops.folded, Loops.to_end}
 use Rattle.et_base.specs.Answers.{◌>>=◌, tested}
-use Rattle.class_pool.specs.{Reading.number_or, Reading.run_or, Loops.counted, Loops.folded, Loops.to_end}
 use Rattle.class_pool.specs.Grammar.{Nothing, Then, Mapped, Never, Tested, Run, Counted, Chain}
 use Rattle.class_pool.proofs.Laws.{Reads, reads_nothing, reads_then, tested_then, reads_mapped, reads_if, reads_never, IsWide, reads_number, reads_run, reads_counted, reads_folded}
-use Rattle.code_decode.specs.declared.{place.Spot.Spot, judging.Fit.Fit}
+use Rattle.code_decode.specs.{declared.place.Spot.Spot, declared.judging.Fit.Fit, Place.cut, Place.wrong, Place.foreign, Operands.judged, Decoding.IsOfCode}
 use Rattle.code_decode.specs.declared.judging.Fit.TheVariants as fit
-use Rattle.code_decode.specs.Place.{cut, wrong, foreign}
-use Rattle.code_decode.specs.{Operands.judged, Decoding.IsOfCode, CodeGrammar.Word, CodeGrammar.is_right}
+use Rattle.code_decode.specs.CodeGrammar.{Word, is_right}
 
 -- ---- faults
 

@@ -3,8 +3,7 @@ use Rattle.std.proofs.Common.{◌≡◌, ℕ, ◌+◌, Bool, true, false, not, c
 use Rattle.std.specs.Prelude.{ℤ, pos, negsuc}
 use Rattle.std.specs.{List.AllByRecursion, List.flat_map, List.list_all, List.enumerate_from, Int.w8, Int.w16, Int.w32, Int.to_be_bytes}
 use Rattle.std.proofs.lemmas.{Bool.eqb-true, Bool.and_parts, List.length-append}
-use Rattle.class_pool.specs.declared.pool.Entry.{Entry}
-use Rattle.class_pool.specs.Pool.{entry_of}
+use Rattle.class_pool.specs.{declared.pool.Entry.Entry, Pool.entry_of}
 use Rattle.et_base.proofs.Cases.{by_test}
 use Rattle.code_decode.specs.declared.{instructions.RawOp.RawOp, decoding.Code.Code, opcodes.Shape.Shape}
 use Rattle.code_decode.specs.declared.opcodes.Shape.TheVariants as shape

@@ -4,9 +4,8 @@ use Rattle.std.specs.Prelude.{ℤ, pos, negsuc, ◌+ℤ◌, ◌-ℤ◌}
 use Rattle.std.specs.Int.{Width, w8, w16, w32, byte_len, to_be_bytes, cast_signed, cast_unsigned}
 use Rattle.std.proofs.lemmas.{Bool.eqb-true, Bool.and_parts, Int.ints, Int.of_z-to_z, List.append-nil}
 use Rattle.class_pool.specs.declared.pool.Entry.{Entry}
-use Rattle.code_decode.specs.declared.judging.Fit.{Fit}
+use Rattle.code_decode.specs.{declared.judging.Fit.Fit, Place.place, Place.target, Targets.leads}
 use Rattle.code_decode.specs.declared.opcodes.Shape.TheVariants as shape
-use Rattle.code_decode.specs.{Place.place, Place.target, Targets.leads}
 use Rattle.code_decode.specs.CodeGrammar.{OneText, IncrementText, FittingText, InterfaceText, DimensionsText}
 use Rattle.code_decode.specs.Spelling.{number_bytes, signed_bytes, offset_bytes, one_bytes, two_bytes}
 

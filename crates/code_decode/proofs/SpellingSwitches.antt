@@ -1,13 +1,11 @@
 -- The spelling of switches.
-use Rattle.std.proofs.lemmas.{Bool.and_parts, List.append-nil, List.length-append, List.length-replicate}
+use Rattle.std.proofs.lemmas.{Bool.and_parts, List.append-nil, List.length-append, List.length-replicate, Bool.Decides.nat_tests}
 use Rattle.std.proofs.Common.{◌≡◌, ℕ, zero, suc, ◌+◌, ◌/◌, ◌%◌, ◌≤◌, Bool, true, not, ◌||◌, List, [], ◌∷◌, ◌++◌, length, replicate, Some, refl, sym, ap, subst, ◌∙◌, append_assoc, arith}
 use Rattle.std.specs.Prelude.{ℤ}
 use Rattle.std.specs.{List.flat_map, List.list_all, List.enumerate_from, Int.w32, Int.to_be_bytes}
-use Rattle.std.proofs.lemmas.Bool.Decides.{nat_tests}
 use Rattle.class_pool.specs.Grammar.{IsBytes, Nothing, Then, Tested, Counted, Joined, Chain}
-use Rattle.code_decode.specs.declared.opcodes.Shape.{Shape}
+use Rattle.code_decode.specs.{declared.opcodes.Shape.Shape, Targets.is_place, Targets.leads, Switches.padding, Switches.span, Switches.keys_rise}
 use Rattle.code_decode.specs.declared.opcodes.Shape.TheVariants as shape
-use Rattle.code_decode.specs.{Targets.is_place, Targets.leads, Switches.padding, Switches.span, Switches.keys_rise}
 use Rattle.code_decode.specs.CodeGrammar.{WordText, PlaceText, OtherText, EndsText, TableText, CountText, PairText, PairsText, LookupText}
 use Rattle.code_decode.specs.Spelling.{signed_bytes, offset_bytes, pair_bytes, table_bytes, lookup_bytes}
 use Rattle.code_decode.proofs.SpellingLaw.{turns32, is_inside, signed_same, offset_same}

@@ -2,12 +2,10 @@
 use Rattle.std.proofs.Common.{◌≡◌, ℕ, ◌+◌, ◌<◌, Bool, true, false, List, [], ◌∷◌, length, map, get_or, drop, Option, Some, Result, Ok, refl, sym, ap, ◌∙◌, arith}
 use Rattle.std.specs.Prelude.{ℤ, not, ◌&&◌, ◌||◌}
 use Rattle.std.specs.List.{list_all, enumerate_from, range_with_len}
-use Rattle.std.proofs.lemmas.List.{drop_more}
-use Rattle.std.proofs.lemmas.List.FromFn.{get_or-map-range_with_len}
-use Rattle.class_pool.specs.declared.fault.{Fault.Fault, Fault.TheVariants.BadTarget, ReadError.ReadError}
+use Rattle.std.proofs.lemmas.List.{drop_more, FromFn.get_or-map-range_with_len}
+use Rattle.class_pool.specs.{declared.fault.Fault.Fault, declared.fault.Fault.TheVariants.BadTarget, declared.fault.ReadError.ReadError, Reading.named}
 use Rattle.class_pool.specs.declared.fault.ReadError.TheVariants as errors
 use Rattle.et_base.specs.Answers.{◌>>=◌, Fails, tested}
-use Rattle.class_pool.specs.Reading.{named}
 use Rattle.code_decode.specs.declared.{instructions.RawOp.RawOp, opcodes.Shape.Shape}
 use Rattle.code_decode.specs.declared.opcodes.Shape.TheVariants as shape
 use Rattle.code_decode.specs.{Opcodes.shape_of, Targets.is_place, Targets.names_places, Targets.leads_to, Targets.targets_fit}

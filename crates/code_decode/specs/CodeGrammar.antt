@@ -2,8 +2,7 @@
 use Rattle.std.specs.Prelude.{◌≡◌, ℕ, ◌+◌, ◌*◌, ◌^◌, ℤ, pos, int_le, List, [], ◌∷◌, ◌++◌, length, Option, Some, None, Bool, true, false, nat_lt, nat_le, ◌==◌, ◌&&◌, cond}
 use Rattle.std.specs.List.{AllByRecursion}
 use Rattle.std.specs.Int.{Width, w8, w16, w32, byte_len, cast_signed}
-use Rattle.class_pool.specs.declared.pool.Entry.{Entry}
-use Rattle.class_pool.specs.Pool.{entry_of}
+use Rattle.class_pool.specs.{declared.pool.Entry.Entry, Pool.entry_of}
 use Rattle.class_pool.specs.Grammar.{Nothing, Then, Mapped, Never, Tested, Number, Run, Counted, Chain}
 use Rattle.code_decode.specs.declared.{instructions.RawOp.RawOp, decoding.Code.Code, judging.Fit.Fit}
 use Rattle.code_decode.specs.declared.judging.Fit.TheVariants as fit

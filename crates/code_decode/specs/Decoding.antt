@@ -4,9 +4,8 @@ use Rattle.class_pool.specs.declared.{fault.Fault.Fault, fault.ReadError.ReadErr
 use Rattle.class_pool.specs.declared.fault.Fault.TheVariants as faults
 use Rattle.class_pool.specs.declared.fault.ReadError.TheVariants as errors
 use Rattle.et_base.specs.Answers.{◌>>=◌}
-use Rattle.code_decode.specs.declared.decoding.{Code.Code, CodeFault.CodeFault}
+use Rattle.code_decode.specs.{declared.decoding.Code.Code, declared.decoding.CodeFault.CodeFault, Instructions.ops_at, Targets.is_start, Targets.targets_fit}
 use Rattle.code_decode.specs.declared.decoding.CodeFault.TheVariants as code
-use Rattle.code_decode.specs.{Instructions.ops_at, Targets.is_start, Targets.targets_fit}
 
 -- all instructions, and then the places that they lead to
 unfoldable pub code_at : ℕ → List (Option Entry) → List ℕ → Result Code Fault

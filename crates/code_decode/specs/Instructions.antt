@@ -1,9 +1,8 @@
 -- Instructions: how each is taken, one after the other, and the first fault.
 use Rattle.std.specs.Prelude.{ℕ, ℤ, ◌-◌, List, [], length, Option, Some, None, Result, Ok, Err, Bool, true, false, ◌==◌, if◌then◌else◌}
 use Rattle.std.specs.Int.{w8, w16, w32}
-use Rattle.class_pool.specs.declared.{fault.Fault.Fault, pool.Entry.Entry}
+use Rattle.class_pool.specs.{declared.fault.Fault.Fault, declared.pool.Entry.Entry, Reading.number_or, Loops.to_end, Pool.entry_of}
 use Rattle.et_base.specs.Answers.{◌>>=◌}
-use Rattle.class_pool.specs.{Reading.number_or, Loops.to_end, Pool.entry_of}
 use Rattle.code_decode.specs.declared.{place.Spot.Spot, instructions.RawOp.RawOp, opcodes.Shape.Shape}
 use Rattle.code_decode.specs.declared.opcodes.Shape.TheVariants as shape
 use Rattle.code_decode.specs.{Place.cut, Place.foreign, Opcodes.shape_of, Opcodes.takes_local, Switches.table_at, Switches.lookup_at}

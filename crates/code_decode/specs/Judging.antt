@@ -1,8 +1,7 @@
 -- Whether an instruction takes the pool entry, or the number, that it names.
 use Rattle.std.specs.Prelude.{ℕ, ◌+◌, List, [], length, take_while, slice_index, unwrap_or, Option, Some, None, Bool, false, nat_lt, ◌==◌, ◌&&◌, ◌||◌, if◌then◌else◌}
-use Rattle.class_pool.specs.declared.pool.Entry.{Entry}
+use Rattle.class_pool.specs.{declared.pool.Entry.Entry, Pool.entry_of, Pool.text_of, Pool.class_name_of}
 use Rattle.class_pool.specs.declared.pool.Entry.TheVariants.{Integer, Long, Class, Str, Field, Method, InterfaceMethod, NameAndType}
-use Rattle.class_pool.specs.Pool.{entry_of, text_of, class_name_of}
 use Rattle.et_base.specs.Names.{argument_units}
 use Rattle.code_decode.specs.declared.judging.{Fit.Fit, Fit.TheVariants.Right, Fit.TheVariants.Wrong, Fit.TheVariants.Foreign}
 use Rattle.code_decode.specs.declared.opcodes.{Constant.Constant, Constant.TheVariants.Single, Constant.TheVariants.Double, Named.Named}

@@ -1,9 +1,8 @@
 -- The operands of an instruction, by their form, and the first fault among them.
 use Rattle.std.specs.Prelude.{ℕ, ℤ, pos, List, [], ◌∷◌, Option, Result, Ok, Err, nat_lt, nat_le, ◌==◌, ◌&&◌}
 use Rattle.std.specs.Int.{Width, w8, w16, cast_signed}
-use Rattle.class_pool.specs.declared.{fault.Fault.Fault, pool.Entry.Entry}
+use Rattle.class_pool.specs.{declared.fault.Fault.Fault, declared.pool.Entry.Entry, Reading.number_or, Pool.entry_of}
 use Rattle.et_base.specs.Answers.{◌>>=◌, tested}
-use Rattle.class_pool.specs.{Reading.number_or, Pool.entry_of}
 use Rattle.code_decode.specs.declared.{place.Spot.Spot, judging.Fit.Fit, opcodes.Named.TheVariants.Interface, opcodes.Named.TheVariants.Nested}
 use Rattle.code_decode.specs.declared.judging.Fit.TheVariants as fit
 use Rattle.code_decode.specs.Place.{cut, wrong, foreign, target}

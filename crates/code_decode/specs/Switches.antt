@@ -1,11 +1,9 @@
 -- The operands of tableswitch and lookupswitch (JVMS 6.5), and the first fault among them.
 use Rattle.std.specs.Prelude.{ℕ, ℤ, pos, ◌+◌, ◌-◌, ◌%◌, ◌-ℤ◌, int_le, int_lt, nat_abs, List, [], ◌∷◌, ◌++◌, Result, Ok, Bool, nat_lt, ◌==◌, ◌||◌, slice_index_or}
 use Rattle.std.specs.{Int.w32, Int.cast_signed, List.list_all, List.enumerate_from}
-use Rattle.class_pool.specs.declared.fault.Fault.{Fault}
+use Rattle.class_pool.specs.{declared.fault.Fault.Fault, Reading.number_or, Reading.run_or, Loops.counted, Loops.folded}
 use Rattle.et_base.specs.Answers.{◌>>=◌, tested}
-use Rattle.class_pool.specs.{Reading.number_or, Reading.run_or, Loops.counted, Loops.folded}
-use Rattle.code_decode.specs.declared.place.Spot.{Spot}
-use Rattle.code_decode.specs.Place.{cut, wrong, target}
+use Rattle.code_decode.specs.{declared.place.Spot.Spot, Place.cut, Place.wrong, Place.target}
 
 -- the bytes, of any value, behind the opcode up to a pc that is a multiple of 4
 abbrev pub padding : ℕ → ℕ

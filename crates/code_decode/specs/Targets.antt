@@ -3,9 +3,8 @@ use Rattle.std.specs.Prelude.{◌≡◌, ℕ, ℤ, pos, negsuc, ◌%◌, List, [
 use Rattle.std.specs.List.{list_all, enumerate_from}
 use Rattle.class_pool.specs.declared.fault.{Fault.Fault, Fault.TheVariants.BadTarget}
 use Rattle.et_base.specs.Answers.{◌>>=◌, tested}
-use Rattle.code_decode.specs.declared.{instructions.RawOp.RawOp, opcodes.Shape.Shape}
+use Rattle.code_decode.specs.{declared.instructions.RawOp.RawOp, declared.opcodes.Shape.Shape, Opcodes.is_within, Opcodes.shape_of}
 use Rattle.code_decode.specs.declared.opcodes.Shape.TheVariants as shape
-use Rattle.code_decode.specs.Opcodes.{is_within, shape_of}
 
 -- whether one of these instructions begins at a pc
 abbrev pub has_start : List RawOp → ℕ → Bool

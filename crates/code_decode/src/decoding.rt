@@ -2,12 +2,10 @@
 
 ghost use Rattle.std.specs.Prelude.{◌≡◌, ◌<◌, length, IfOk, IfErr, Ok, Err, Result};
 ghost use Rattle.et_base.specs.Answers.{Fails, nothing};
-ghost use Rattle.class_pool.specs.Reading.{named, Gives};
-ghost use Rattle.class_pool.specs.declared.fault.Fault.{Fault};
-ghost use Rattle.code_decode.specs.Targets.{Marks, is_start, is_marked, targets_fit};
-ghost use Rattle.code_decode.specs.{Instructions.ops_at, CodeGrammar.CodeText};
+ghost use Rattle.class_pool.specs.{declared.fault.Fault.Fault, Reading.named, Reading.Gives};
+ghost use Rattle.code_decode.specs.{declared.decoding.Code.Code, Targets.Marks, Targets.is_start, Targets.is_marked, Targets.targets_fit, Instructions.ops_at};
+ghost use Rattle.code_decode.specs.CodeGrammar.{CodeText};
 ghost use Rattle.code_decode.specs.Decoding.{code_at, IsOfCode, IsCodeError, Faults, Answers};
-ghost use Rattle.code_decode.specs.declared.decoding.Code.{Code};
 
 use crate::instructions::{RawOp, ops_of};
 use crate::starts::{Starts, judge_targets};

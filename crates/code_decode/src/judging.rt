@@ -1,8 +1,7 @@
 //! Whether an instruction takes what it names.
 
 ghost use Rattle.std.specs.Prelude.{◌≡◌, option_copied, Some};
-ghost use Rattle.class_pool.specs.declared.pool.Entry.TheVariants.{Class};
-ghost use Rattle.class_pool.specs.{Pool.entry_of, Reading.Gives};
+ghost use Rattle.class_pool.specs.{declared.pool.Entry.TheVariants.Class, Pool.entry_of, Reading.Gives};
 ghost use Rattle.et_base.specs.Answers.{nothing};
 ghost use Rattle.code_decode.specs.Judging.{units_of, class_name, dimensions, is_real_array, array_fit, made_fit, element_fit, nested_fit, member_fit, named_fit, constant_fit, kind_fit, pair_units, interface_units, counts_units};
 ghost use Rattle.code_decode.specs.Operands.{judged};

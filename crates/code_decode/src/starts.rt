@@ -2,8 +2,7 @@
 
 ghost use Rattle.std.specs.Prelude.{◌≡◌, ◌<◌, nat_lt, length, IfOk, IfErr, List, Bool, true, false, not, replicate, slice_index_or, slice_set, if◌then◌else◌};
 ghost use Rattle.et_base.specs.Answers.{nothing, tested};
-ghost use Rattle.class_pool.specs.Reading.{Gives};
-ghost use Rattle.class_pool.specs.declared.fault.{Fault.TheVariants.BadTarget, ReadError.TheVariants.Memory};
+ghost use Rattle.class_pool.specs.{declared.fault.Fault.TheVariants.BadTarget, declared.fault.ReadError.TheVariants.Memory, Reading.Gives};
 ghost use Rattle.code_decode.specs.Targets.{Marks, is_place, names_places, is_marked, leads, leads_to, targets_fit};
 
 use crate::instructions::RawOp;

@@ -1,8 +1,7 @@
 //! The operands of tableswitch and lookupswitch.
 
 ghost use Rattle.std.specs.Prelude.{◌≡◌, ℤ, pos, ◌+◌, ◌-◌, ◌-ℤ◌, int_le, nat_abs, List, [], ◌∷◌, ◌++◌, OnOk, IfOk, IfErr};
-ghost use Rattle.class_pool.specs.{Reading.Gives, Loops.counted, Loops.folded};
-ghost use Rattle.class_pool.specs.declared.fault.ReadError.TheVariants.{Memory};
+ghost use Rattle.class_pool.specs.{declared.fault.ReadError.TheVariants.Memory, Reading.Gives, Loops.counted, Loops.folded};
 ghost use Rattle.code_decode.specs.Switches.{padding, word_at, place_at, other_at, ends_at, span, rows_at, table_at, count_at, pairs_at, pair_at, keys_rise, lookup_at};
 
 use crate::args::Args;

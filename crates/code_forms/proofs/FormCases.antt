@@ -3,13 +3,11 @@ use Rattle.std.proofs.Common.{◌≡◌, ◌≢◌, ◌⊎◌, ℕ, suc, ◌+◌
 use Rattle.std.proofs.lemmas.Bool.{eqb-true, leb-true, leb-false, and_parts, or_cases, eqb-false, cond_both}
 use Rattle.code_decode.specs.declared.instructions.RawOp.{RawOp}
 use Rattle.jvm_model.specs.declared.values.{Value.TheVariants.Int, Value.TheVariants.Long, Value.TheVariants.Null, Value.Value, Kind.Kind}
-use Rattle.jvm_model.specs.declared.instr.Instr.{Instr}
+use Rattle.jvm_model.specs.{declared.instr.Instr.Instr, Selection.named_class}
 use Rattle.jvm_model.specs.declared.instr.Instr.TheVariants as form
 use Rattle.jvm_model.specs.declared.instr.Sort.TheVariants as sort
-use Rattle.jvm_model.specs.Selection.{named_class}
-use Rattle.code_forms.specs.declared.references.Target.{Target}
+use Rattle.code_forms.specs.{declared.references.Target.Target, Operands.operand, Operands.number_in}
 use Rattle.code_forms.specs.declared.references.Target.TheVariants as target
-use Rattle.code_forms.specs.Operands.{operand, number_in}
 use Rattle.code_forms.specs.Forms.{constant_form, constants, loads, stores, moves, numbers, conversions, test_of, table, look_up, branches, field_form, method_form, members, array_of, number_array, type_form, types, others, form_of}
 
 -- a form without a place, a number of the program or an object

@@ -13,10 +13,9 @@ use Rattle.jvm_model.specs.declared.values.Kind.TheVariants as kind
 use Rattle.jvm_model.specs.declared.instr.Instr.TheVariants as form
 use Rattle.jvm_model.specs.{Classes.method_at, Classes.is_static, Selection.named_class}
 use Rattle.jvm_model.specs.Linked.{IsClass, IsField, IsMethod, IsLiteral, IsBase, IsKind, IsArray, NamesForm, IsFormKind, IsFormFound, IsForm, IsFoundIn, IsFoundField, IsPlainField, IsStaticMethod, IsPlainMethod, IsStaticCall, IsSpecialCall, is_interface_at, dims_of}
-use Rattle.code_forms.specs.declared.references.{Use.Use, Target.Target}
+use Rattle.code_forms.specs.{declared.references.Use.Use, declared.references.Target.Target, Operands.number_in}
 use Rattle.code_forms.specs.declared.references.Use.TheVariants as used
 use Rattle.code_forms.specs.declared.references.Target.TheVariants as target
-use Rattle.code_forms.specs.Operands.{number_in}
 use Rattle.code_forms.specs.Uses.{use_of, fits_sort, method_fits, field_fits, fits}
 use Rattle.code_forms.specs.Forms.{field_form, method_form, array_of, number_array, form_of}
 use Rattle.code_forms.proofs.FormCases.{is_plain, is_single, IsTyped, form_case, field_case, method_case, type_case}

@@ -2,16 +2,13 @@
 use Rattle.std.proofs.Common.{◌≡◌, ℕ, ◌%◌, ◌^◌, ◌<◌, ◌≤◌, ℤ, pos, Bool, true, false, eqb, leb, ◌||◌, List, [], ◌∷◌, get_or, Option, Some, refl, sym, ap, subst, ◌∙◌, arith, inl, inr}
 use Rattle.std.specs.Int.{w32, cast_unsigned}
 use Rattle.std.specs.Prelude.{not, ◌&&◌, is_some}
-use Rattle.std.proofs.lemmas.Bool.{eqb-true, le-leb, agree_below, agree_below_at}
-use Rattle.std.proofs.lemmas.Bool.Decides.{nat_tests}
-use Rattle.class_pool.specs.declared.pool.Entry.{Entry}
+use Rattle.std.proofs.lemmas.Bool.{eqb-true, le-leb, agree_below, agree_below_at, Decides.nat_tests}
+use Rattle.class_pool.specs.{declared.pool.Entry.Entry, Pool.entry_of}
 use Rattle.class_pool.specs.declared.pool.Entry.TheVariants as entry
-use Rattle.class_pool.specs.Pool.{entry_of}
-use Rattle.code_decode.specs.declared.{instructions.RawOp.RawOp, opcodes.Shape.Shape}
+use Rattle.code_decode.specs.{declared.instructions.RawOp.RawOp, declared.opcodes.Shape.Shape, Judging.named_fit, Opcodes.shape_of, Opcodes.takes_local}
 use Rattle.code_decode.specs.declared.judging.Fit.TheVariants as fit
 use Rattle.code_decode.specs.declared.opcodes.Shape.TheVariants as shape
 use Rattle.code_decode.specs.declared.opcodes.Named.TheVariants as named
-use Rattle.code_decode.specs.{Judging.named_fit, Opcodes.shape_of, Opcodes.takes_local}
 use Rattle.code_decode.proofs.{ArgFacts.OneNumber, ArgFacts.IndexCount, ArgFacts.CallsInterface, ArgFacts.ArgFacts, CodeFacts.PlainFacts, CodeFacts.OpFacts}
 use Rattle.code_forms.specs.Operands.{number_in, index_in}
 use Rattle.code_forms.proofs.{FormCases.is_untyped, FormCases.is_single, FormCases.IsTyped, FormFacts.CallsBySort}

@@ -5,17 +5,15 @@ use Rattle.code_decode.specs.declared.instructions.RawOp.{RawOp}
 use Rattle.jvm_model.specs.declared.values.{Value.TheVariants.Int, Value.TheVariants.Long, Value.TheVariants.Null, Kind.Kind}
 use Rattle.jvm_model.specs.declared.values.Base.TheVariants as base
 use Rattle.jvm_model.specs.declared.values.Kind.TheVariants as kind
-use Rattle.jvm_model.specs.declared.instr.{Instr.Instr, Sort.Sort, Op.Op, IfTest.IfTest}
+use Rattle.jvm_model.specs.{declared.instr.Instr.Instr, declared.instr.Sort.Sort, declared.instr.Op.Op, declared.instr.IfTest.IfTest, Selection.named_class}
 use Rattle.jvm_model.specs.declared.instr.Instr.TheVariants as form
 use Rattle.jvm_model.specs.declared.instr.Sort.TheVariants as sort
 use Rattle.jvm_model.specs.declared.instr.Cell.TheVariants as cell
 use Rattle.jvm_model.specs.declared.instr.Op.TheVariants as op
 use Rattle.jvm_model.specs.declared.instr.Conv.TheVariants as conv
 use Rattle.jvm_model.specs.declared.instr.IfTest.TheVariants as test
-use Rattle.jvm_model.specs.Selection.{named_class}
-use Rattle.code_forms.specs.declared.references.Target.{Target}
+use Rattle.code_forms.specs.{declared.references.Target.Target, Operands.operand, Operands.number_in}
 use Rattle.code_forms.specs.declared.references.Target.TheVariants as target
-use Rattle.code_forms.specs.Operands.{operand, number_in}
 
 -- ---- operands
 

@@ -2,9 +2,8 @@
 use Rattle.std.specs.Prelude.{ℕ, Option, Some, None, Bool, true, false, not, ◌&&◌, ◌||◌, nat_eq, nat_le, ◌==◌, if◌then◌else◌}
 use Rattle.class_pool.specs.declared.pool.Entry.{Entry}
 use Rattle.class_pool.specs.declared.pool.Entry.TheVariants as entry
-use Rattle.jvm_model.specs.declared.{values.Kind.Kind, program.Program.Program}
+use Rattle.jvm_model.specs.{declared.values.Kind.Kind, declared.program.Program.Program, Builtin.throwable_class, Selection.named_class, Linked.is_interface_at}
 use Rattle.jvm_model.specs.declared.values.Kind.TheVariants as kind
-use Rattle.jvm_model.specs.{Builtin.throwable_class, Selection.named_class, Linked.is_interface_at}
 use Rattle.jvm_model.specs.Classes.{class_at, field_at, method_at, is_static, is_below, member}
 use Rattle.code_forms.specs.declared.references.{Use.Use, Target.Target}
 use Rattle.code_forms.specs.declared.references.Use.TheVariants as used

@@ -1,13 +1,11 @@
 -- A book with one piece more, and the pieces that are left of it.
 use Rattle.std.proofs.Common.{◌≡◌, ℕ, zero, suc, ◌+◌, ◌<◌, ◌≤◌, ◌^◌, List, [], ◌∷◌, ◌++◌, length, get_or, set, sum_by, All, Bool, true, false, is_some, Option, Some, None, refl, sym, ◌∙◌, ap, subst, inl, inr, arith}
 use Rattle.std.proofs.lemmas.List.{get_or-set_same, get_or-set_other, get_or_default, get_or_read, length-set}
-use Rattle.std.proofs.lemmas.List.Sums.{sum_by-append, sum_by-cons, sum_by-le, sum_by-set}
-use Rattle.std.proofs.lemmas.Bool.{cases_eq}
+use Rattle.std.proofs.lemmas.{List.Sums.sum_by-append, List.Sums.sum_by-cons, List.Sums.sum_by-le, List.Sums.sum_by-set, Bool.cases_eq}
 use Rattle.jvm_model.specs.declared.program.Program.{Program}
 use Rattle.order_law.specs.declared.edges.Edge.{Edge}
 use Rattle.test_run.specs.Running.{Posted}
-use Rattle.cone_run.specs.{Cones.IsCone, Cones.cone_units, Runs.IsPieceOf}
-use Rattle.cone_run.specs.Books.{IsBook, IsPosted, AreLeft, posted_units}
+use Rattle.cone_run.specs.{Cones.IsCone, Cones.cone_units, Runs.IsPieceOf, Books.IsBook, Books.IsPosted, Books.AreLeft, Books.posted_units}
 use Rattle.cone_run.proofs.ConeLists.{cone_piece}
 
 -- pieces that aren't there have no units

@@ -2,16 +2,13 @@
 use Rattle.std.proofs.Common.{◌≡◌, ℕ, zero, suc, ◌+◌, ◌<◌, ◌≤◌, List, [], ◌∷◌, ◌++◌, length, take, drop, get_or, filter, All, Bool, true, not, nat_eq, Some, refl, sym, ◌∙◌, ap, subst, inl, inr, arith}
 use Rattle.std.proofs.{Math.Seq.split_at, lemmas.List.Elements.All-filter, lemmas.List.Filters.length-filter_both}
 use Rattle.std.proofs.lemmas.{Bool.cases_Bool, Bool.ne_eqb, List.get_or_read}
-use Rattle.jvm_model.specs.declared.program.Program.{Program}
-use Rattle.order_law.specs.declared.edges.Edge.{Edge}
-use Rattle.jvm_model.specs.Suite.{last_outcome}
-use Rattle.order_law.specs.{Conflicts.Member, Pairing.no_more, Pairing.one_more, Plan.Ascending}
+use Rattle.jvm_model.specs.{declared.program.Program.Program, Suite.last_outcome}
+use Rattle.order_law.specs.{declared.edges.Edge.Edge, Conflicts.Member, Pairing.no_more, Pairing.one_more, Plan.Ascending}
 use Rattle.order_law.proofs.Posts.{below_mid}
 use Rattle.type_frames.specs.Typing.{IsTyped}
 use Rattle.dep_graph.specs.Graphs.{GoUp}
-use Rattle.test_run.specs.declared.run_fault.RunFault.{RunFault}
+use Rattle.test_run.specs.{declared.run_fault.RunFault.RunFault, Running.IsTest, Running.Posted}
 use Rattle.test_run.specs.declared.run_fault.RunFault.TheVariants as fault
-use Rattle.test_run.specs.Running.{IsTest, Posted}
 use Rattle.cone_run.specs.Cones.{IsCone, IsConeOf, AreCones, AreConesOf, IsConeFault, IsConeSuite, GivesCone}
 use Rattle.cone_run.specs.{Marks.without, Runs.HasTest, Runs.IsListFault, Runs.IsPieceOf}
 use Rattle.cone_run.proofs.{Closures.cone_low, Closures.cone_positive, Closures.cone_own, Closures.few, Pairs.paired_at, Pairs.paired_length}

@@ -1,16 +1,13 @@
 -- The run of a list, test by test.
 use Rattle.std.proofs.Common.{◌≡◌, ℕ, suc, ◌+◌, ◌-◌, ◌*◌, ◌^◌, ◌<◌, ◌≤◌, List, [], ◌∷◌, ◌++◌, length, take, drop, get_or, true, false, Option, Some, None, Result, Ok, Err, IfOk, OnOk, OnErr, sym, ◌∙◌, ap, subst, arith}
-use Rattle.std.proofs.Math.Seq.{split_at}
-use Rattle.std.proofs.lemmas.List.{take_more}
-use Rattle.jvm_model.specs.declared.program.Program.{Program}
-use Rattle.jvm_model.specs.{State.no_test, State.test_at, World.World}
+use Rattle.std.proofs.{Math.Seq.split_at, lemmas.List.take_more}
+use Rattle.jvm_model.specs.{declared.program.Program.Program, State.no_test, State.test_at, World.World}
 use Rattle.jvm_model.specs.Suite.{Given, opening, one_test, runs, first_over_on, first_over, outcome_in, units_of, world_after, suite_limit}
 use Rattle.jvm_model.proofs.{Budgets.one_test_units, Runs.last_outcome_is}
 use Rattle.type_frames.specs.Typing.{IsTyped}
 use Rattle.vm_mem.specs.Kept.{Kept}
-use Rattle.test_run.specs.declared.run_fault.RunFault.{RunFault}
+use Rattle.test_run.specs.{declared.run_fault.RunFault.RunFault, Outcomes.given_in}
 use Rattle.test_run.specs.declared.run_fault.RunFault.TheVariants as fault
-use Rattle.test_run.specs.Outcomes.{given_in}
 use Rattle.test_run.specs.Running.{IsAfter, IsRefused, IsTest, Machined, Posted}
 use Rattle.cone_run.specs.{Cones.ended_units_on, Cones.cone_units, Runs.IsListFault, Runs.IsNextFault, Runs.IsPieceOf, Runs.RanAfter}
 use Rattle.cone_run.proofs.Units.{ended_both, over_both, units_are}

@@ -2,11 +2,9 @@
 use Rattle.std.proofs.Common.{◌≡◌, ℕ, ◌+◌, ◌<◌, ◌≤◌, List, [], ◌∷◌, ◌++◌, length, get_or, take, Bool, ◌&&◌, sym, ap, ◌∙◌, refl, subst, arith, codes, decimal, map}
 use Rattle.std.specs.List.{list_all, zip}
 use Rattle.std.proofs.lemmas.List.{take_all, take_more, append_assoc, map-append, length-map, length-take-le}
-use Rattle.jvm_model.specs.declared.{outcome.Outcome.Outcome, program.Names.Names}
-use Rattle.jvm_model.specs.Texts.{is_passed, count_line}
-use Rattle.test_run.specs.Running.{Posted}
+use Rattle.jvm_model.specs.{declared.outcome.Outcome.Outcome, declared.program.Names.Names, Texts.is_passed, Texts.count_line}
+use Rattle.test_run.specs.{declared.tallies.Tally.Tally, Running.Posted}
 use Rattle.test_run.specs.Tallies.{IsCount, IsFew, IsTally, head_of, tally_with}
-use Rattle.test_run.specs.declared.tallies.Tally.{Tally}
 use Rattle.test_run.proofs.{Joins.join2, Joins.join3, TallyLaws.all_more, TallyLaws.few_of, TallyLaws.tally_next}
 use Rattle.cone_run.specs.ConesText.{cones_line, cones_text, count_run, outcomes}
 

@@ -1,8 +1,7 @@
 -- The tests of a list that end, and the first that gives nothing.
 use Rattle.std.proofs.Common.{◌≡◌, ℕ, ◌+◌, List, [], ◌∷◌, ◌++◌, Option, Some, None, refl, sym, ◌∙◌, ap, subst, arith}
 use Rattle.std.proofs.lemmas.List.{append-nil}
-use Rattle.jvm_model.specs.declared.program.Program.{Program}
-use Rattle.jvm_model.specs.{State.test_at, World.World}
+use Rattle.jvm_model.specs.{declared.program.Program.Program, State.test_at, World.World}
 use Rattle.jvm_model.specs.Suite.{Given, opening, one_test, runs_on, runs, with_first, first_over_on, first_over, last_outcome, last_in, outcome_in, units_of, world_after}
 use Rattle.jvm_model.proofs.Runs.{split}
 use Rattle.cone_run.specs.Cones.{ended_units_on, cone_units}

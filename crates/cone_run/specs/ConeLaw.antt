@@ -1,9 +1,7 @@
 -- A cone is lawful, and by the suite's own record its test has there the outcome of the suite's order.
 use Rattle.std.specs.Prelude.{◌≡◌, ℕ, List, [], ◌∷◌, ◌++◌, true, None}
-use Rattle.jvm_model.specs.declared.program.Program.{Program}
-use Rattle.jvm_model.specs.{Linked.Linked, Suite.is_detected, Suite.first_over, Suite.last_outcome, Suite.seq}
-use Rattle.order_law.specs.declared.edges.Edge.{Edge}
-use Rattle.order_law.specs.{Conflicts.Lawful, Histories.IsTestNumber, OwnRecord.edges_of}
+use Rattle.jvm_model.specs.{declared.program.Program.Program, Linked.Linked, Suite.is_detected, Suite.first_over, Suite.last_outcome, Suite.seq}
+use Rattle.order_law.specs.{declared.edges.Edge.Edge, Conflicts.Lawful, Histories.IsTestNumber, OwnRecord.edges_of}
 use Rattle.dep_graph.specs.Graphs.{GoUp}
 use Rattle.cone_run.specs.Cones.{IsCone}
 

@@ -1,16 +1,13 @@
 -- Cones: the tests that one test needs by the edges of a record, and what it gives after them (this project's).
 use Rattle.std.specs.Prelude.{◌≡◌, ℕ, ◌+◌, ◌<◌, List, [], ◌∷◌, length, All, Some, None}
-use Rattle.jvm_model.specs.declared.{outcome.Outcome.Outcome, program.Program.Program}
-use Rattle.jvm_model.specs.{State.test_at, World.World}
+use Rattle.jvm_model.specs.{declared.outcome.Outcome.Outcome, declared.program.Program.Program, State.test_at, World.World}
 use Rattle.jvm_model.specs.Suite.{opening, one_test, first_over, last_outcome}
-use Rattle.order_law.specs.declared.edges.Edge.{Edge}
-use Rattle.order_law.specs.{Pairing.PairedList, Plan.Ascending}
+use Rattle.order_law.specs.{declared.edges.Edge.Edge, Pairing.PairedList, Plan.Ascending}
 use Rattle.type_frames.specs.Typing.{IsTyped}
 use Rattle.dep_graph.specs.Graphs.{GoUp}
 use Rattle.selection_close.specs.Closed.{IsClosure}
-use Rattle.test_run.specs.declared.run_fault.RunFault.{RunFault}
+use Rattle.test_run.specs.{declared.run_fault.RunFault.RunFault, Running.IsTest, Running.Posted}
 use Rattle.test_run.specs.declared.run_fault.RunFault.TheVariants as fault
-use Rattle.test_run.specs.Running.{IsTest, Posted}
 
 -- the cone of a test: exactly the closure of it alone, in suite order
 abbrev pub IsCone : List Edge → ℕ → List ℕ → Type 0

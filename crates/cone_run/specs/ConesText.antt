@@ -1,8 +1,7 @@
 -- The report on cones (this project's).
 use Rattle.std.specs.Prelude.{ℕ, List, [], ◌∷◌, ◌++◌, map, length, sum_by, codes, decimal}
 use Rattle.std.specs.List.{zip}
-use Rattle.jvm_model.specs.declared.{outcome.Outcome.Outcome, program.Names.Names}
-use Rattle.jvm_model.specs.Texts.{test_lines, verdict_line}
+use Rattle.jvm_model.specs.{declared.outcome.Outcome.Outcome, declared.program.Names.Names, Texts.test_lines, Texts.verdict_line}
 use Rattle.test_run.specs.Running.{Posted}
 
 abbrev pub outcomes : List Posted → List Outcome

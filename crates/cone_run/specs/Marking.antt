@@ -1,14 +1,11 @@
 -- What is known of a manifest while it is made.
 use Rattle.std.specs.Prelude.{◌≡◌, ℕ, ◌+◌, ◌≤◌, List, [], ◌∷◌, sum_by, Some}
-use Rattle.jvm_model.specs.declared.{outcome.Outcome.Outcome, program.Program.Program}
-use Rattle.jvm_model.specs.Suite.{first_over, last_outcome}
-use Rattle.order_law.specs.declared.edges.{Edge.Edge, EdgeKind.TheVariants.Raw}
-use Rattle.order_law.specs.{Conflicts.Member, Conflicts.HasEdge, Pairing.PairedList}
+use Rattle.jvm_model.specs.{declared.outcome.Outcome.Outcome, declared.program.Program.Program, Suite.first_over, Suite.last_outcome}
+use Rattle.order_law.specs.{declared.edges.Edge.Edge, declared.edges.EdgeKind.TheVariants.Raw, Conflicts.Member, Conflicts.HasEdge, Pairing.PairedList}
 use Rattle.dep_graph.specs.Graphs.{AreWriters}
 use Rattle.test_run.specs.declared.run_fault.RunFault.{RunFault}
 use Rattle.test_run.specs.declared.run_fault.RunFault.TheVariants as fault
-use Rattle.cone_run.specs.declared.marks.Mark.{Mark}
-use Rattle.cone_run.specs.Cones.{IsCone, GivesCone, cone_units}
+use Rattle.cone_run.specs.{declared.marks.Mark.Mark, Cones.IsCone, Cones.GivesCone, Cones.cone_units}
 use Rattle.cone_run.specs.Marks.{HasWriter, InRecordOrder, IsEffect, IsMark, Marks, without}
 
 -- the mark of a writer of test t, whose cone this is and which has this outcome at the end of it

@@ -1,9 +1,7 @@
 -- What becomes of a test when one of its raw writers is left out of its cone (this project's).
 use Rattle.std.specs.Prelude.{◌≡◌, ◌⊎◌, ℕ, zero, suc, ◌+◌, ◌<◌, List, [], ◌∷◌, length, filter, sum_by, not, nat_eq, Option, Some, None}
-use Rattle.jvm_model.specs.declared.{outcome.Outcome.Outcome, program.Program.Program}
-use Rattle.jvm_model.specs.Suite.{last_outcome}
-use Rattle.order_law.specs.declared.edges.{Edge.Edge, EdgeKind.TheVariants.Raw}
-use Rattle.order_law.specs.Conflicts.{Member, HasEdge}
+use Rattle.jvm_model.specs.{declared.outcome.Outcome.Outcome, declared.program.Program.Program, Suite.last_outcome}
+use Rattle.order_law.specs.{declared.edges.Edge.Edge, declared.edges.EdgeKind.TheVariants.Raw, Conflicts.Member, Conflicts.HasEdge}
 use Rattle.dep_graph.specs.Graphs.{AreWriters}
 use Rattle.cone_run.specs.declared.marks.{Effect.Effect, Effect.TheVariants.Same, Effect.TheVariants.Changed, Effect.TheVariants.Over, Mark.Mark}
 use Rattle.cone_run.specs.Cones.{IsCone, cone_units}

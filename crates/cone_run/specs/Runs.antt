@@ -1,11 +1,9 @@
 -- What the run of a list of tests gives, on a machine that was set back.
 use Rattle.std.specs.Prelude.{◌≡◌, ℕ, ◌+◌, ◌≤◌, List, [], ◌∷◌, ◌++◌, length, All, Some}
-use Rattle.jvm_model.specs.declared.program.Program.{Program}
-use Rattle.jvm_model.specs.Suite.{first_over, last_outcome, suite_limit}
+use Rattle.jvm_model.specs.{declared.program.Program.Program, Suite.first_over, Suite.last_outcome, Suite.suite_limit}
 use Rattle.order_law.specs.Conflicts.{Member}
-use Rattle.test_run.specs.declared.run_fault.RunFault.{RunFault}
+use Rattle.test_run.specs.{declared.run_fault.RunFault.RunFault, Running.IsTest, Running.Posted}
 use Rattle.test_run.specs.declared.run_fault.RunFault.TheVariants as fault
-use Rattle.test_run.specs.Running.{IsTest, Posted}
 use Rattle.cone_run.specs.Cones.{cone_units}
 
 -- a piece of a list of tests

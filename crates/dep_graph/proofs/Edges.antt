@@ -1,7 +1,6 @@
 -- One more edge at the end of a record.
 use Rattle.std.proofs.Common.{◌≡◌, ◌⊎◌, ℕ, zero, suc, ◌<◌, ◌≤◌, List, [], ◌∷◌, ◌++◌, take, drop, refl, sym, subst, inl, inr, arith}
-use Rattle.order_law.specs.declared.edges.{Edge.Edge, EdgeKind.EdgeKind}
-use Rattle.order_law.specs.Conflicts.{HasEdge, Before, edge, chain}
+use Rattle.order_law.specs.{declared.edges.Edge.Edge, declared.edges.EdgeKind.EdgeKind, Conflicts.HasEdge, Conflicts.Before, Conflicts.edge, Conflicts.chain}
 use Rattle.order_law.proofs.Members.{edge_left, edge_right, edge_either, before_up}
 
 pub edge_taken : (i : ℕ) (R : List Edge) (k : EdgeKind) (u t : ℕ) → HasEdge (take i R) k u t → HasEdge R k u t

@@ -1,12 +1,9 @@
 -- The rows after one more edge.
 use Rattle.std.proofs.Common.{◌≡◌, ℕ, zero, suc, ◌+◌, ◌/◌, ◌%◌, ◌<◌, ◌≤◌, true, false, ◌&&◌, ◌||◌, nat_eq, List, [], ◌∷◌, ◌++◌, length, take, drop, get_or, sym, ◌∙◌, ap, subst, inl, inr}
 use Rattle.std.proofs.lemmas.Bool.{and_parts, and_from, or_cases, or_left, or_right, eqb-true, eq-eqb, true≢false}
-use Rattle.std.proofs.lemmas.List.{take_more, get_or_past}
-use Rattle.std.proofs.Math.Seq.{drop-cons}
-use Rattle.order_law.specs.declared.edges.{Edge.Edge, EdgeKind.EdgeKind}
-use Rattle.order_law.specs.Conflicts.{HasEdge, Before, edge, chain}
-use Rattle.dep_graph.specs.declared.sets.TestSet.{TestSet}
-use Rattle.dep_graph.specs.{Graphs.AreOrdered, Graphs.AreRows, Graphs.nothing, Graphs.has_row, Sets.holds}
+use Rattle.std.proofs.{lemmas.List.take_more, lemmas.List.get_or_past, Math.Seq.drop-cons}
+use Rattle.order_law.specs.{declared.edges.Edge.Edge, declared.edges.EdgeKind.EdgeKind, Conflicts.HasEdge, Conflicts.Before, Conflicts.edge, Conflicts.chain}
+use Rattle.dep_graph.specs.{declared.sets.TestSet.TestSet, Graphs.AreOrdered, Graphs.AreRows, Graphs.nothing, Graphs.has_row, Sets.holds}
 use Rattle.dep_graph.proofs.{Bits.empty_held, Edges.edge_taken, Edges.edge_dropped, Edges.before_either, Edges.before_from}
 
 -- the next edge stands in the rest

@@ -1,7 +1,6 @@
 -- The lists of raw writers after one more edge.
 use Rattle.std.proofs.Common.{◌≡◌, ℕ, ◌+◌, ◌<◌, List, [], ◌∷◌, ◌++◌, length, take, drop, get_or, set, refl, sym, ◌∙◌, ap, subst, inl, inr}
-use Rattle.std.proofs.lemmas.{Bool.cases_eq, List.get_or-set_same, List.get_or-set_other}
-use Rattle.std.proofs.Math.ListN.{length-set}
+use Rattle.std.proofs.{lemmas.Bool.cases_eq, lemmas.List.get_or-set_same, lemmas.List.get_or-set_other, Math.ListN.length-set}
 use Rattle.order_law.specs.declared.edges.{Edge.Edge, EdgeKind.EdgeKind, EdgeKind.TheVariants.Raw}
 use Rattle.order_law.specs.{Conflicts.Member, Conflicts.HasEdge, Plan.Ascending}
 use Rattle.order_law.proofs.Members.{member_left, member_right, member_either, edge_left, edge_right, edge_either}

@@ -2,8 +2,7 @@
 use Rattle.std.specs.Prelude.{◌≡◌, ◌↔◌, ℕ, ◌+◌, ◌<◌, ◌≤◌, List, [], take, drop, get_or, length, Bool, true}
 use Rattle.order_law.specs.declared.edges.{Edge.Edge, EdgeKind.EdgeKind, EdgeKind.TheVariants.Raw}
 use Rattle.order_law.specs.{Conflicts.Member, Conflicts.HasEdge, Conflicts.Before, Plan.Ascending}
-use Rattle.dep_graph.specs.declared.sets.TestSet.{TestSet}
-use Rattle.dep_graph.specs.Sets.{holds}
+use Rattle.dep_graph.specs.{declared.sets.TestSet.TestSet, Sets.holds}
 
 -- each edge leads to a later test, and no test has a number above n
 abbrev pub GoUp : ℕ → List Edge → Type 0

@@ -2,8 +2,7 @@
 use Rattle.std.specs.Prelude.{ℕ, List, [], ◌∷◌, codes, Option, Some, None, if◌then◌else◌}
 use Rattle.std.specs.Str.{bytes_eq}
 use Rattle.outside.specs.{Depot.DepotView, Depot.OfHeld, Sink.SinkView}
-use Rattle.electrictest.specs.declared.status.Status.{Status}
-use Rattle.electrictest.specs.{Commands.Taken, Commands.Ends, Commands.Served, Commands.called, Words.threaded}
+use Rattle.electrictest.specs.{declared.status.Status.Status, Commands.Taken, Commands.Ends, Commands.Served, Commands.called, Words.threaded}
 use Rattle.electric.specs.declared.TheConstants.{HELP, VERSION}
 
 -- the text of a word that is answered by itself alone

@@ -1,7 +1,6 @@
 -- The tests of a selection's closure are few, and are the suite's.
 use Rattle.std.proofs.Common.{◌≡◌, ℕ, ◌+◌, ◌<◌, ◌≤◌, List, [], ◌∷◌, length, refl, inl, inr, arith}
-use Rattle.order_law.specs.declared.edges.Edge.{Edge}
-use Rattle.order_law.specs.{Conflicts.Member, Plan.AreListedChainsOf, Plan.Ascending, Histories.IsTestNumber}
+use Rattle.order_law.specs.{declared.edges.Edge.Edge, Conflicts.Member, Plan.AreListedChainsOf, Plan.Ascending, Histories.IsTestNumber}
 use Rattle.jvm_model.specs.declared.program.Program.{Program}
 use Rattle.dep_graph.specs.Graphs.{GoUp}
 use Rattle.schedule_plan.specs.Plans.{HasUnits}

@@ -9,8 +9,7 @@ use Rattle.electrictest.specs.declared.status.Status.TheVariants as ends
 use Rattle.electrictest.specs.declared.words.Command.TheVariants as command
 use Rattle.electrictest.specs.Commands.{Asked, PartReplied, Served, called}
 use Rattle.electrictest.specs.Complete.{AcceptsSuite, IsAccepted, of_depot, of_generated, IsCompleted, Complete, QuietlyComplete, quiet_depot, quiet_sink}
-use Rattle.electrictest.specs.Loads.{Begins, LoadsAny, LoadsFor, begun_by}
-use Rattle.electrictest.specs.{Orders.IsUnlawful, Records.Beginning}
+use Rattle.electrictest.specs.{Loads.Begins, Loads.LoadsAny, Loads.LoadsFor, Loads.begun_by, Orders.IsUnlawful, Records.Beginning}
 use Rattle.electrictest.specs.Replies.{IsRefusedInput, unloaded, unbegun, unlawful}
 use Rattle.electrictest.specs.Words.{Ask, Asking, is_eager, suite_named, suite_word, unformed}
 use Rattle.electrictest.proofs.{GeneratedLaws.never_failed, OwnRecordLaws.any_once, OwnRecordLaws.loaded_once, QuietLaws.sink_quiet}

@@ -1,11 +1,9 @@
 -- Cones and the manifest, or their refusal, answer what is asked.
 use Rattle.std.proofs.Common.{◌≡◌, ◌↔◌, ℕ, ◌<◌, ◌≤◌, List, length, get_or, Bool, Some, Ok, All, refl}
 use Rattle.jvm_model.specs.declared.program.Program.{Program}
-use Rattle.order_law.specs.declared.edges.Edge.{Edge}
-use Rattle.order_law.specs.Conflicts.{Member}
-use Rattle.test_run.specs.declared.run_fault.RunFault.{RunFault}
+use Rattle.order_law.specs.{declared.edges.Edge.Edge, Conflicts.Member}
+use Rattle.test_run.specs.{declared.run_fault.RunFault.RunFault, Running.IsTest}
 use Rattle.test_run.specs.declared.run_fault.RunFault.TheVariants as run
-use Rattle.test_run.specs.Running.{IsTest}
 use Rattle.cone_run.specs.Cones.{IsConeFault}
 use Rattle.outside.specs.Depot.{Files, Told, DepotView, OfHeld}
 use Rattle.selection_close.specs.Closed.{IsAscendingOf}
@@ -15,8 +13,7 @@ use Rattle.electrictest.specs.declared.{status.Status.Status, status.OverFault.O
 use Rattle.electrictest.specs.declared.status.Status.TheVariants as ends
 use Rattle.electrictest.specs.{Causes.AsksSuch, Causes.runs_tests, Loads.begun_by, PoolRuns.IsOfSuite, Records.Beginning, Replies.ReportsBy, Replies.OversBy}
 use Rattle.electrictest.specs.Commands.{ReportEnds, ReportsOver, RefusedOver}
-use Rattle.electrictest.specs.ConeRuns.{AreCounted, ConesRefused, IsOverCone, OfBegun}
-use Rattle.electrictest.specs.{Tests.list_status, Words.Ask}
+use Rattle.electrictest.specs.{ConeRuns.AreCounted, ConeRuns.ConesRefused, ConeRuns.IsOverCone, ConeRuns.OfBegun, Tests.list_status, Words.Ask}
 use Rattle.electrictest.proofs.{AskedFor.reports_as, AskedFor.overs_as, ChosenLaws.few_tests, OrderLists.member_all}
 
 -- ---- the selected tests, each once and in suite order

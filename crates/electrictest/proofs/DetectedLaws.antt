@@ -2,15 +2,13 @@
 use Rattle.std.proofs.Common.{if◌then◌else◌, false, ◌≡◌, ℕ, List, length, nat_le, Bool, true, Option, Some, None, Result, Ok, Err, refl, sym, ap, ◌∙◌, subst}
 use Rattle.std.specs.List.{list_all}
 use Rattle.std.proofs.lemmas.Bool.{and_from, le-leb}
-use Rattle.order_law.specs.declared.records.{More.More, Record.Record}
-use Rattle.order_law.specs.Reach.{IsRecordOf}
+use Rattle.order_law.specs.{declared.records.More.More, declared.records.Record.Record, Reach.IsRecordOf}
 use Rattle.outside.specs.{Depot.Files, Depot.content, Sink.SinkView}
 use Rattle.dep_record.specs.{Laws.AreHashes, RecordReading.said_in}
 use Rattle.dep_record.specs.RecordText.{said, record_text, is_hash, more_hashes, has_hashes}
 use Rattle.dep_record.proofs.{GivenLaws.given_text, HashLaws.hashes_law}
 use Rattle.suite_load.specs.declared.loaded.Loaded.{Loaded}
-use Rattle.electrictest.specs.declared.status.Status.{Status}
-use Rattle.electrictest.specs.{Commands.Asked, Commands.Served, OwnLists.DetectedOrderAnswer, OwnPools.DetectedAnswer}
+use Rattle.electrictest.specs.{declared.status.Status.Status, Commands.Asked, Commands.Served, OwnLists.DetectedOrderAnswer, OwnPools.DetectedAnswer}
 use Rattle.electrictest.specs.Loads.{LoadsNamed, LoadsAny, quieted, prepared}
 use Rattle.electrictest.specs.OwnRecords.{AsksOwnRecord, HoldsSaying, HoldsText}
 use Rattle.electrictest.specs.{Records.record_bytes, Records.record_limit, Records.within_limit, Words.Ask, Words.is_eager, Words.suite_word, Words.word_at}

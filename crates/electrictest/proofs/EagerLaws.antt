@@ -3,8 +3,7 @@ use Rattle.std.proofs.Common.{◌≡◌, ℕ, List, Bool, true, Option, Some, Re
 use Rattle.outside.specs.Depot.{Files, Told, OfHeld}
 use Rattle.suite_load.specs.declared.loaded.Loaded.{Loaded}
 use Rattle.quiet_law.proofs.Suite.{quiet_law}
-use Rattle.electrictest.specs.declared.status.Status.{Status}
-use Rattle.electrictest.specs.{EagerForms.AsksEager, EagerForms.EagerAnswer, Loads.LoadsFor, Loads.LoadsAny, Loads.quieted}
+use Rattle.electrictest.specs.{declared.status.Status.Status, EagerForms.AsksEager, EagerForms.EagerAnswer, Loads.LoadsFor, Loads.LoadsAny, Loads.quieted}
 use Rattle.electrictest.specs.Words.{Ask, is_eager, IsOverSuite, suite_word, word_at}
 use Rattle.electrictest.proofs.{AskedFor.suite_of_words, LoadedFacts.loaded_from, LoadedFacts.loaded_typed}
 

@@ -1,14 +1,11 @@
 -- With the record that `detect` wrote of the suite's earlier state, each test that an impact doesn't name has the lines that it had.
 use Rattle.std.proofs.Common.{◌≡◌, ℕ, zero, suc, ◌+◌, ◌<◌, ◌≤◌, List, [], ◌∷◌, length, map, slice_get, filter, Bool, true, false, cond, ◌==◌, refl, sym, ap, ◌∙◌, subst, inl, inr, arith, Option, Some, None, option_map, unwrap_or, IsSome, Result, Ok, Err}
 use Rattle.std.specs.{List.range_with_len, Str.bytes_eq}
-use Rattle.std.proofs.lemmas.{Bool.cases_eq, Bool.eq-eqb, Bool.false≢true, List.length-map}
-use Rattle.std.proofs.{lemmas.Slice.Eq.bytes_eq-Decides, lemmas.List.FromFn.length-map-range_with_len}
+use Rattle.std.proofs.lemmas.{Bool.cases_eq, Bool.eq-eqb, Bool.false≢true, List.length-map, Slice.Eq.bytes_eq-Decides, List.FromFn.length-map-range_with_len}
 use Rattle.sha2.specs.Sha256.{sha256}
-use Rattle.jvm_model.specs.declared.program.{Names.Names, Program.Program}
-use Rattle.jvm_model.specs.{Texts.outcome_lines, Suite.is_detected, Suite.seq}
-use Rattle.order_law.specs.declared.records.{More.More, Prints.Prints, Record.Record}
-use Rattle.order_law.specs.{Conflicts.Member, Histories.IsTestNumber}
-use Rattle.order_law.specs.Reach.{IsMoreOf, IsRecordOf, units_in}
+use Rattle.jvm_model.specs.{declared.program.Names.Names, declared.program.Program.Program, Texts.outcome_lines, Suite.is_detected, Suite.seq}
+use Rattle.order_law.specs.{declared.records.More.More, declared.records.Prints.Prints, declared.records.Record.Record, Conflicts.Member}
+use Rattle.order_law.specs.{Histories.IsTestNumber, Reach.IsMoreOf, Reach.IsRecordOf, Reach.units_in}
 use Rattle.outside.specs.{Depot.Files, Sink.SinkView}
 use Rattle.dep_record.specs.{Laws.AreHashes, RecordText.said, RecordText.record_text}
 use Rattle.suite_load.specs.declared.{suite_text.SuiteText.SuiteText, loaded.Loaded.Loaded, load_fault.LoadFault.LoadFault}

@@ -4,11 +4,10 @@ use Rattle.jvm_model.specs.declared.program.Names.{Names}
 use Rattle.dep_graph.specs.declared.detected.Detected.{Detected}
 use Rattle.outside.specs.Depot.{Files, Told, DepotView}
 use Rattle.suite_load.specs.declared.loaded.Loaded.{Loaded}
-use Rattle.electrictest.specs.declared.status.{Status.Status, OverFault.OverFault}
+use Rattle.electrictest.specs.{declared.status.Status.Status, declared.status.OverFault.OverFault, Causes.AsksSuch, Causes.runs_tests}
 use Rattle.electrictest.specs.declared.status.Status.TheVariants as ends
-use Rattle.electrictest.specs.{Causes.AsksSuch, Causes.runs_tests, Detections.IsDetected, Detections.Finds, Replies.Reports, Replies.OversBy}
-use Rattle.electrictest.specs.Commands.{ReportEnds, ReportsOver, RefusedOver}
-use Rattle.electrictest.specs.{Running.RunRefused, Wholes.IsOver, Words.Ask}
+use Rattle.electrictest.specs.{Detections.IsDetected, Detections.Finds, Replies.Reports, Replies.OversBy}
+use Rattle.electrictest.specs.{Commands.ReportEnds, Commands.ReportsOver, Commands.RefusedOver, Running.RunRefused, Wholes.IsOver, Words.Ask}
 
 pub reports_found : (told : Told) (a : Ask) (l : Loaded) (write : Names → Detected → List ℕ) (passed : Bool) (text : List ℕ) (begun now : ℕ) →
     ((files : Files) (units : ℕ) → IsDetected files a write passed text units → Reports files a passed text units) → Finds l write passed text begun now → ReportsOver told a l passed text begun now

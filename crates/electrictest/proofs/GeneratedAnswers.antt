@@ -2,9 +2,8 @@
 use Rattle.std.proofs.Common.{◌≡◌, ◌∙◌, ℕ, List, Bool, true, false, sym, ap, subst, inl, inr, Result, Ok, Err, IfOk, IfErr}
 use Rattle.std.proofs.lemmas.Bool.{false≢true}
 use Rattle.outside.specs.{Depot.DepotView, Sink.SinkView}
-use Rattle.electrictest.specs.declared.{reports.Report.Report, status.Status.Status}
+use Rattle.electrictest.specs.{declared.reports.Report.Report, declared.status.Status.Status, Commands.Refused, Commands.Writes, Commands.report_status}
 use Rattle.electrictest.specs.declared.status.Status.TheVariants as ends
-use Rattle.electrictest.specs.Commands.{Refused, Writes, report_status}
 use Rattle.electrictest.specs.{Generated.Sums, Words.Ask, Words.OfGenerated}
 use Rattle.electrictest.specs.GeneratedAnswers.{GeneratedAnswer, GeneratedEnds, Summed}
 

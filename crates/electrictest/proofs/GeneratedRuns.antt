@@ -1,8 +1,7 @@
 -- The tests of a generated suite pass, with the units that its summary tells.
 use Rattle.std.proofs.Common.{◌≡◌, ℕ, ◌-◌, ◌%◌, List, [], ◌∷◌, length, map, sum, count_by, Bool, true, false, cond, ◌==◌, if◌then◌else◌, Some, refl, sym, ◌∙◌, arith, inl, inr}
 use Rattle.std.specs.List.{list_all}
-use Rattle.std.proofs.lemmas.List.Sums.{sum_by-cons}
-use Rattle.std.proofs.lemmas.Option.{same_Some}
+use Rattle.std.proofs.lemmas.{List.Sums.sum_by-cons, Option.same_Some}
 use Rattle.generated_law.specs.GeneratedRun.{outcome_of, passed_with}
 use Rattle.jvm_model.specs.declared.outcome.{Outcome.Outcome, Verdict.Verdict, Verdict.TheVariants.Passed}
 use Rattle.jvm_model.specs.{Suite.seq, Texts.is_passed}

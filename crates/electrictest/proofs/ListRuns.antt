@@ -1,14 +1,12 @@
 -- The run of a list of tests.
 use Rattle.std.proofs.Common.{◌≡◌, ℕ, ◌+◌, List, [], ◌∷◌, length, map, refl, sym, ap, ◌∙◌}
 use Rattle.std.proofs.lemmas.List.{length-map}
-use Rattle.jvm_model.specs.declared.{outcome.Outcome.Outcome, program.Program.Program, values.Touch.Touch}
+use Rattle.jvm_model.specs.{declared.outcome.Outcome.Outcome, declared.program.Program.Program, declared.values.Touch.Touch, World.World}
 use Rattle.jvm_model.specs.Suite.{Given, first_over, first_over_on, opening, runs, runs_on, units_of}
-use Rattle.jvm_model.specs.World.{World}
 use Rattle.vm_mem.specs.Trace.{Trace}
 use Rattle.suite_load.specs.declared.loaded.Loaded.{Loaded}
-use Rattle.test_run.specs.declared.run_fault.RunFault.{RunFault}
+use Rattle.test_run.specs.{declared.run_fault.RunFault.RunFault, Lists.RanList, Lists.IsListRefused}
 use Rattle.test_run.specs.declared.run_fault.RunFault.TheVariants as fault
-use Rattle.test_run.specs.Lists.{RanList, IsListRefused}
 use Rattle.electrictest.specs.{Running.RanInOrder, Running.ListRefused, TestNames.units_in, Tests.list_status}
 
 units_same : (xs : List Given) → units_of xs ≡ units_in (map (λ x. x.outcome) xs)

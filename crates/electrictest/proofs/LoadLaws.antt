@@ -8,14 +8,13 @@ use Rattle.suite_load.specs.{Loading.Loads, Loading.IsRead, LoadAnswers.LoadAnsw
 use Rattle.jvm_model.specs.Builtin.{builtin_count}
 use Rattle.quiet_init.specs.Quiet.{quiet}
 use Rattle.quiet_init.proofs.Parts.{class_count}
-use Rattle.electrictest.specs.declared.{reports.Report.Report, status.Status.Status}
+use Rattle.electrictest.specs.{declared.reports.Report.Report, declared.status.Status.Status, Causes.AsksAny, Replies.Unreported, Replies.unloaded}
 use Rattle.electrictest.specs.declared.status.Status.TheVariants as ends
 use Rattle.electrictest.specs.declared.status.InputFault.TheVariants as input
 use Rattle.electrictest.specs.declared.words.WordsFault.TheVariants as faults
-use Rattle.electrictest.specs.{Causes.AsksAny, Replies.Unreported, Replies.unloaded}
+use Rattle.electrictest.specs.Commands.{ReportEnds, ReportsOver, RefusedOver, Reported}
 use Rattle.electrictest.specs.Words.{Ask, Asking, ask, is_eager, word_at, refusal_of, suite_word, IsOverSuite}
 use Rattle.electrictest.specs.Loads.{IsSuite, LoadsFor, LoadsAny, answered, quieted, prepared, status_of, of_suite}
-use Rattle.electrictest.specs.Commands.{ReportEnds, ReportsOver, RefusedOver, Reported}
 use Rattle.electrictest.proofs.{AskedFor.any_files, AskedFor.suite_of_words, Held.carried}
 
 -- ---- loading

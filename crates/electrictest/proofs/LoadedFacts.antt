@@ -3,25 +3,20 @@ use Rattle.std.proofs.Common.{◌≤◌, ◌≡◌, ℕ, zero, suc, ◌+◌, Lis
 use Rattle.std.proofs.lemmas.List.Elements.{All-cons}
 use Rattle.sha2.specs.Sha256.{sha256}
 use Rattle.jvm_model.specs.declared.program.Program.{Program}
-use Rattle.class_pool.specs.Grammar.{IsBytes}
+use Rattle.class_pool.specs.{declared.fault.Fault.Fault, Grammar.IsBytes}
 use Rattle.class_reader.specs.declared.{parts.ClassParts.ClassParts, fault.ClassFault.ClassFault}
 use Rattle.class_reader.specs.{Class.class_at, ClassGrammar.IsClass, Faults.with_offsets, Faults.class_of}
 use Rattle.class_reader.proofs.ClassLaw.{class_takes}
-use Rattle.class_link.specs.declared.fault.LinkFault.{LinkFault}
-use Rattle.class_link.specs.Link.{Links, LinksBy}
-use Rattle.class_pool.specs.declared.fault.Fault.{Fault}
-use Rattle.order_law.specs.declared.records.Prints.{Prints}
-use Rattle.order_law.specs.Pairing.{PairedList, no_more, one_more}
+use Rattle.class_link.specs.{declared.fault.LinkFault.LinkFault, Link.Links, Link.LinksBy}
+use Rattle.order_law.specs.{declared.records.Prints.Prints, Pairing.PairedList, Pairing.no_more, Pairing.one_more}
 use Rattle.outside.specs.Depot.{Files, content}
 use Rattle.suite_load.specs.declared.{suite_text.SuiteText.SuiteText, suite_text.SuiteRefusal.SuiteRefusal, load_fault.LoadFault.LoadFault}
 use Rattle.suite_load.specs.declared.suite_text.SuiteRefusal.TheVariants as refusals
 use Rattle.suite_load.specs.declared.load_fault.LoadFault.TheVariants as fault
-use Rattle.suite_load.specs.declared.loaded.Loaded.{Loaded}
-use Rattle.suite_load.specs.SuiteForm.{suite_of}
+use Rattle.suite_load.specs.{declared.loaded.Loaded.Loaded, SuiteForm.suite_of}
 use Rattle.suite_load.proofs.GoodLines.{IsGood, good_suite}
 use Rattle.suite_load.specs.Loading.{◌>>=◌, within, file_of, file_limit, room_after, suite_answer, suite_in, class_answer, class_in, classes_in, read_in, bytes_of, sums_in, lines_of, names_in, typed_answer, loaded_of, checked_of, ReadGives, Loads}
-use Rattle.type_frames.specs.declared.fault.CheckFault.{CheckFault}
-use Rattle.type_frames.specs.Typing.{check_fault, IsTyped}
+use Rattle.type_frames.specs.{declared.fault.CheckFault.CheckFault, Typing.check_fault, Typing.IsTyped}
 use Rattle.type_checker.proofs.Typed.{typed_none}
 use Rattle.class_link.proofs.LinkLaw.{links_linked}
 use Rattle.electrictest.specs.declared.status.Status.{Status}

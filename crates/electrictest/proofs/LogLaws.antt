@@ -1,11 +1,9 @@
 -- The events of a core, and the history that they are.
 use Rattle.std.proofs.Common.{◌≡◌, List, [], ◌∷◌, ◌++◌, map, reverse, sym, ap, ◌∙◌}
-use Rattle.std.proofs.lemmas.List.{append-nil, append_assoc, reverse-append}
-use Rattle.std.proofs.lemmas.List.Folds.{flat_map-map}
+use Rattle.std.proofs.lemmas.List.{append-nil, append_assoc, reverse-append, Folds.flat_map-map}
 use Rattle.std.specs.List.{flat_map, fold}
 use Rattle.order_law.specs.Plan as law
-use Rattle.run_core.specs.declared.events.Event.{Event}
-use Rattle.run_core.specs.Run.{told, history_of}
+use Rattle.run_core.specs.{declared.events.Event.Event, Run.told, Run.history_of}
 use Rattle.electrictest.specs.Logs.{event_line}
 
 -- behind earlier events

@@ -4,13 +4,12 @@ use Rattle.outside.specs.Depot.{Told, DepotView, OfHeld}
 use Rattle.order_law.specs.OrderFault.{OrderFault, twice, missing_writer, inverted}
 use Rattle.jvm_model.specs.declared.program.Names.{Names}
 use Rattle.suite_load.specs.declared.loaded.Loaded.{Loaded}
-use Rattle.electrictest.specs.declared.status.{InputFault.InputFault, Status.Status}
+use Rattle.electrictest.specs.{declared.status.InputFault.InputFault, declared.status.Status.Status, Words.Ask, Words.Asking, Records.Beginning, Loads.begun_by}
 use Rattle.electrictest.specs.declared.status.Status.TheVariants as ends
 use Rattle.electrictest.specs.declared.words.Command.TheVariants as command
-use Rattle.electrictest.specs.{Words.Ask, Words.Asking, Records.Beginning, Loads.begun_by, Plans.IsPlanned, Plans.IsPlanReport, PoolRuns.IsOfSuite}
-use Rattle.electrictest.specs.Orders.{order_input, IsOrdered, IsOrderedOver, Reports}
-use Rattle.electrictest.specs.{Replies.unlawful, Running.OrderRefused, Causes.MayRefuse}
-use Rattle.electrictest.specs.Commands.{IsProperInput, ReportEnds, ReportsOver, RefusedOver}
+use Rattle.electrictest.specs.{Plans.IsPlanned, Plans.IsPlanReport, PoolRuns.IsOfSuite}
+use Rattle.electrictest.specs.{Orders.order_input, Orders.IsOrdered, Orders.IsOrderedOver, Orders.Reports, Replies.unlawful, Running.OrderRefused}
+use Rattle.electrictest.specs.{Causes.MayRefuse, Commands.IsProperInput, Commands.ReportEnds, Commands.ReportsOver, Commands.RefusedOver}
 use Rattle.electrictest.proofs.AskedFor.{reports_as, overs_as}
 
 pub order_reports : (told : Told) (a : Ask) (l : Loaded) (b : Beginning) (passed : Bool) (text : List ℕ) (begun now : ℕ) → a.command ≡ Ok command.Order → OfHeld told (λ files. begun_by files a l ≡ Some (Ok b)) →

@@ -7,9 +7,8 @@ use Rattle.jvm_model.specs.declared.{outcome.Outcome.Outcome, program.Names.Name
 use Rattle.jvm_model.specs.Texts.{is_passed, is_failed, is_error, head_line, count_line, verdict_line, outcome_lines, test_lines, report_on}
 use Rattle.order_law.specs.Conflicts.{Member}
 use Rattle.schedule_plan.proofs.Places.{place_of}
-use Rattle.test_run.specs.declared.tallies.Counts.{Counts}
+use Rattle.test_run.specs.{declared.tallies.Counts.Counts, Tallies.IsCount}
 use Rattle.electrictest.specs.{Orders.paired, Orders.is_of, Orders.by_test, Orders.order_report, Tallies.report_text}
-use Rattle.test_run.specs.Tallies.{IsCount}
 
 abbrev Listed : Type 0
 Listed = List (ℕ × Outcome)

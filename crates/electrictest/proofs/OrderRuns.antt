@@ -1,14 +1,12 @@
 -- The run of an order, and its report.
 use Rattle.std.proofs.Common.{◌≡◌, ◌<◌, ◌≤◌, ℕ, List, Bool, length, All, sym, ap, ◌∙◌, arith}
 use Rattle.std.specs.List.{list_all}
-use Rattle.jvm_model.specs.declared.outcome.Outcome.{Outcome}
-use Rattle.jvm_model.specs.Texts.{is_passed}
+use Rattle.jvm_model.specs.{declared.outcome.Outcome.Outcome, Texts.is_passed}
 use Rattle.order_law.specs.Conflicts.{Member, Lawful}
 use Rattle.suite_load.specs.declared.loaded.Loaded.{Loaded}
 use Rattle.test_run.specs.Running.{IsTest}
-use Rattle.electrictest.specs.declared.status.Status.{Status}
+use Rattle.electrictest.specs.{declared.status.Status.Status, Loads.IsSuite, Orders.order_report, Orders.Reports, Records.Beginning, TestNames.units_in}
 use Rattle.electrictest.specs.declared.status.Status.TheVariants as ends
-use Rattle.electrictest.specs.{Loads.IsSuite, Orders.order_report, Orders.Reports, Records.Beginning, TestNames.units_in}
 use Rattle.electrictest.specs.Running.{RanInOrder, ListRefused, OrderRefused}
 use Rattle.schedule_plan.proofs.Totals.{few}
 use Rattle.electrictest.proofs.OrderLists.{member_all}

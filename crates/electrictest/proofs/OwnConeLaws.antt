@@ -2,14 +2,11 @@
 use Rattle.std.proofs.Common.{◌≡◌, ℕ, ◌+◌, List, [], ◌∷◌, map, Bool, true, Option, Some, None, Ok, Err, refl, sym, ap, ◌∙◌, subst, inl, inr, arith}
 use Rattle.jvm_model.specs.declared.{outcome.Outcome.Outcome, program.Program.Program}
 use Rattle.jvm_model.specs.{Linked.Linked, Suite.first_over, Suite.is_detected, Suite.last_outcome, Suite.seq}
-use Rattle.order_law.specs.declared.edges.{Edge.Edge, EdgeKind.TheVariants.Raw}
-use Rattle.order_law.specs.{Conflicts.HasEdge, Conflicts.Member, Histories.IsTestNumber, Histories.touches_of, OwnRecord.edges_of, OwnRecord.owner}
-use Rattle.order_law.specs.Pairing.{no_more, one_more}
+use Rattle.order_law.specs.{declared.edges.Edge.Edge, declared.edges.EdgeKind.TheVariants.Raw, Conflicts.HasEdge, Conflicts.Member}
+use Rattle.order_law.specs.{Histories.IsTestNumber, Histories.touches_of, OwnRecord.edges_of, OwnRecord.owner, Pairing.no_more, Pairing.one_more}
 use Rattle.order_law.proofs.OwnRecord.{is_record}
 use Rattle.test_run.specs.Running.{Posted}
-use Rattle.cone_run.specs.declared.marks.Mark.{Mark}
-use Rattle.cone_run.specs.Cones.{AreConesOf, IsCone, IsFirstOver}
-use Rattle.cone_run.specs.{ConesText.outcomes, Marks.HasWriter, Marks.IsMark}
+use Rattle.cone_run.specs.{declared.marks.Mark.Mark, Cones.AreConesOf, Cones.IsCone, Cones.IsFirstOver, ConesText.outcomes, Marks.HasWriter, Marks.IsMark}
 use Rattle.cone_run.proofs.ConeLaw.{own_cone_law}
 use Rattle.outside.specs.{Depot.Files, Sink.SinkView}
 use Rattle.suite_load.specs.declared.loaded.Loaded.{Loaded}
@@ -17,11 +14,10 @@ use Rattle.electrictest.specs.declared.{status.Status.Status, status.InputFault.
 use Rattle.electrictest.specs.declared.status.Status.TheVariants as ends
 use Rattle.electrictest.specs.declared.words.Command.TheVariants as command
 use Rattle.electrictest.specs.{Commands.Asked, Commands.Served, Commands.Whole, ConeRuns.IsConeReport, ConeRuns.IsOverCone, ConeRuns.OfBegun}
-use Rattle.electrictest.specs.{Loads.Begins, Loads.begun_by, Loads.fits_for, Loads.named_by, Records.Beginning, Records.record_fits}
-use Rattle.electrictest.specs.{Manifests.IsManifest, OwnRecords.AsksOwnRecord, OwnRecords.HoldsSaying, PoolRuns.IsOfSuite}
+use Rattle.electrictest.specs.{Loads.Begins, Loads.begun_by, Loads.fits_for, Loads.named_by, Records.Beginning, Records.record_fits, Manifests.IsManifest}
+use Rattle.electrictest.specs.{OwnRecords.AsksOwnRecord, OwnRecords.HoldsSaying, PoolRuns.IsOfSuite, Words.Ask, Words.Asking, Words.is_eager, Words.suite_word}
 use Rattle.electrictest.specs.OwnCones.{AsksOwn, HoldsRecord, IsOwnConeReport, IsOwnManifest, IsOwnMark, OwnConesAnswer, OwnManifestAnswer, WroteBy}
 use Rattle.electrictest.specs.Replies.{IsRefusedInput, unloaded, unbegun, unlawful, ReportsBy, OversBy}
-use Rattle.electrictest.specs.Words.{Ask, Asking, is_eager, suite_word}
 use Rattle.electrictest.proofs.DetectedLaws.{says_own}
 use Rattle.electrictest.proofs.OwnRecordLaws.{any_once, own_start, begun_by_own, begins_once, starts_once, own_ends}
 

@@ -1,11 +1,9 @@
 -- What the words of an order are answered with the suite's own record.
 use Rattle.std.proofs.Common.{◌≡◌, ℕ, ◌+◌, List, [], ◌∷◌, map, Bool, Option, Some, is_some, is_none, unwrap_or, Result, Ok, Err, refl, sym, ap, ◌∙◌, subst}
 use Rattle.std.proofs.lemmas.Bool.{false≢true}
-use Rattle.jvm_model.specs.declared.{outcome.Outcome.Outcome, program.Program.Program}
-use Rattle.jvm_model.specs.Suite.{Given, seq, runs, first_over}
+use Rattle.jvm_model.specs.{declared.outcome.Outcome.Outcome, declared.program.Program.Program, Suite.Given, Suite.seq, Suite.runs, Suite.first_over}
 use Rattle.jvm_model.proofs.FirstOver.{first_over_none}
-use Rattle.order_law.specs.declared.edges.Edge.{Edge}
-use Rattle.order_law.specs.{Conflicts.Lawful, Histories.AreSequential}
+use Rattle.order_law.specs.{declared.edges.Edge.Edge, Conflicts.Lawful, Histories.AreSequential}
 use Rattle.order_law.proofs.{OrderFaults.law_of_faults, OwnRecord.own_law}
 use Rattle.outside.specs.{Depot.Files, Sink.SinkView}
 use Rattle.suite_load.specs.declared.loaded.Loaded.{Loaded}

@@ -1,11 +1,9 @@
 -- What a command begins with, and is answered, with the suite's own record.
 use Rattle.std.proofs.Common.{◌≡◌, ℕ, ◌+◌, List, length, Bool, true, false, ◌==◌, Option, Some, None, option_map, unwrap_or, Result, Ok, Err, refl, sym, ap, ◌∙◌}
 use Rattle.std.specs.Str.{bytes_eq}
-use Rattle.std.proofs.lemmas.Bool.{eq-eqb}
-use Rattle.std.proofs.{lemmas.Slice.Eq.bytes_eq-Decides, lemmas.List.FromFn.length-map-range_with_len}
+use Rattle.std.proofs.lemmas.{Bool.eq-eqb, Slice.Eq.bytes_eq-Decides, List.FromFn.length-map-range_with_len}
 use Rattle.jvm_model.specs.Suite.{seq}
-use Rattle.order_law.specs.declared.records.{More.More, Record.Record}
-use Rattle.order_law.specs.Reach.{IsRecordOf, units_in}
+use Rattle.order_law.specs.{declared.records.More.More, declared.records.Record.Record, Reach.IsRecordOf, Reach.units_in}
 use Rattle.outside.specs.{Depot.Files, Sink.SinkView}
 use Rattle.dep_record.specs.RecordText.{Said, said}
 use Rattle.suite_load.specs.declared.loaded.Loaded.{Loaded}

@@ -1,11 +1,9 @@
 -- Plans and their texts.
 use Rattle.std.proofs.Common.{◌≡◌, ℕ, ◌+◌, ◌*◌, ◌^◌, ◌<◌, ◌≤◌, List, [], ◌∷◌, length, map, sum, nat_le, true, refl, ap, ◌∙◌, subst, arith, All}
 use Rattle.std.specs.List.{list_all}
-use Rattle.std.proofs.lemmas.Bool.{and_parts, leb-true}
-use Rattle.std.proofs.lemmas.List.Sums.{sum_by-cons}
+use Rattle.std.proofs.lemmas.{Bool.and_parts, Bool.leb-true, List.Sums.sum_by-cons}
 use Rattle.order_law.specs.declared.edges.{Edge.Edge, EdgeKind.TheVariants.Raw}
-use Rattle.order_law.specs.Conflicts.{Member, Closure, selected, source}
-use Rattle.order_law.specs.{Plan.AreListedChainsOf, RecordForm.is_record_form}
+use Rattle.order_law.specs.{Conflicts.Member, Conflicts.Closure, Conflicts.selected, Conflicts.source, Plan.AreListedChainsOf, RecordForm.is_record_form}
 use Rattle.dep_graph.specs.Graphs.{GoUp}
 use Rattle.selection_close.specs.Closed.{IsClosure}
 use Rattle.outside.specs.Depot.{Told}

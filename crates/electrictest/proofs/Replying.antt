@@ -1,9 +1,8 @@
 -- What is on the sink, from what was written.
 use Rattle.std.proofs.Common.{◌≡◌, ◌≢◌, ℕ, List, Bool, true, false, refl, sym, subst, inl, inr, Result, Ok, Err, IfOk, IfErr}
 use Rattle.outside.specs.{Depot.Files, Depot.Told, Depot.DepotView, Depot.OfHeld, Sink.SinkView}
-use Rattle.electrictest.specs.declared.{reports.Report.Report, status.Status.Status}
+use Rattle.electrictest.specs.{declared.reports.Report.Report, declared.status.Status.Status, Words.Ask, Causes.MayReport}
 use Rattle.electrictest.specs.declared.status.Status.TheVariants as ends
-use Rattle.electrictest.specs.{Words.Ask, Causes.MayReport}
 use Rattle.electrictest.specs.Replies.{fault_line, Unreported, IsAnswer}
 use Rattle.electrictest.specs.Commands.{ReportEnds, Reported, Whole, Writes, Refused, Taken, Counted, DepotFailed, Asked, called, Answering, Replied, Served, Ends, report_status}
 

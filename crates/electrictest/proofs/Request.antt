@@ -5,12 +5,11 @@ use Rattle.outside.specs.Depot.{Files, Told, DepotView, OfHeld}
 use Rattle.dep_record.specs.RecordText.{Said}
 use Rattle.suite_load.specs.declared.loaded.Loaded.{Loaded}
 use Rattle.test_run.specs.Running.{IsTest}
-use Rattle.electrictest.specs.declared.status.{Status.Status, InputFault.InputFault}
+use Rattle.electrictest.specs.{declared.status.Status.Status, declared.status.InputFault.InputFault, Words.Ask, Words.Asking, Words.word_at}
 use Rattle.electrictest.specs.declared.status.Status.TheVariants as ends
 use Rattle.electrictest.specs.declared.status.InputFault.TheVariants as input
 use Rattle.electrictest.specs.declared.words.Command.TheVariants as command
-use Rattle.electrictest.specs.{Words.Ask, Words.Asking, Words.word_at, Records.Beginning, Records.Gives, Records.begun, Records.says}
-use Rattle.electrictest.specs.{Selections.IsTestOf, Replies.unbegun}
+use Rattle.electrictest.specs.{Records.Beginning, Records.Gives, Records.begun, Records.says, Selections.IsTestOf, Replies.unbegun}
 use Rattle.electrictest.specs.Loads.{IsSuite, named_by, fits_for, begun_by, of_record}
 use Rattle.electrictest.specs.Causes.{AsksSuch, IsOfRecord, MayRefuse, names_tests, reads_record}
 use Rattle.electrictest.specs.Commands.{Fails, IsNameRefusal, IsProperInput, IsRecordRefusal, ReportEnds, RefusedOver}

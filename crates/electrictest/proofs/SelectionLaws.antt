@@ -1,11 +1,9 @@
 -- Names in a word, one after another.
 use Rattle.std.proofs.Common.{◌≡◌, ℕ, ◌+◌, ◌<◌, ◌≤◌, List, [], ◌∷◌, ◌++◌, length, get_or, drop, cond, nat_lt, Bool, true, false, refl, sym, ap, ◌∙◌, arith, append_assoc, position, Option, Some, None, Result, Ok, Err}
-use Rattle.std.proofs.{lemmas.Bool.Decides.nat_tests, lemmas.List.Sums.position_or_len_is}
-use Rattle.std.proofs.lemmas.List.{append-nil, drop_more, drop_all}
+use Rattle.std.proofs.lemmas.{Bool.Decides.nat_tests, List.Sums.position_or_len_is, List.append-nil, List.drop_more, List.drop_all}
 use Rattle.et_base.specs.Answers.{Fails}
 use Rattle.jvm_model.specs.declared.program.Names.{Names}
-use Rattle.electrictest.specs.declared.status.InputFault.{InputFault}
-use Rattle.electrictest.specs.Selections.{◌>>=◌, test_of, tests_of}
+use Rattle.electrictest.specs.{declared.status.InputFault.InputFault, Selections.◌>>=◌, Selections.test_of, Selections.tests_of}
 
 -- the first element that passes
 pub position_at : {X : Type 0} (p : X → Bool) (xs : List X) (i : ℕ) (d : X) → i < length xs → ((k : ℕ) → k < i → p (get_or xs k d) ≡ false) → p (get_or xs i d) ≡ true → position p xs ≡ Some i

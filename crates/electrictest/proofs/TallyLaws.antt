@@ -2,12 +2,10 @@
 use Rattle.std.proofs.Common.{◌≡◌, ℕ, suc, ◌+◌, ◌^◌, ◌<◌, ◌≤◌, List, [], ◌∷◌, ◌++◌, length, get_or, take, sym, ap, ◌∙◌, refl, subst, arith, codes, Option, None}
 use Rattle.std.proofs.lemmas.List.{take_more, append_assoc, length-append, length-map, length-take-le}
 use Rattle.std.specs.List.{list_all}
-use Rattle.jvm_model.specs.declared.{outcome.Outcome.Outcome, program.Names.Names}
-use Rattle.jvm_model.specs.Texts.{is_passed, head_line, count_line, report_on}
+use Rattle.jvm_model.specs.{declared.outcome.Outcome.Outcome, declared.program.Names.Names, Texts.is_passed, Texts.head_line, Texts.count_line, Texts.report_on}
 use Rattle.order_law.specs.Plan.{Event}
 use Rattle.run_core.specs.Run.{Gave}
-use Rattle.test_run.specs.declared.tallies.Tally.{Tally}
-use Rattle.test_run.specs.Tallies.{IsCount, IsFew, IsTally, tally_with}
+use Rattle.test_run.specs.{declared.tallies.Tally.Tally, Tallies.IsCount, Tallies.IsFew, Tallies.IsTally, Tallies.tally_with}
 use Rattle.test_run.proofs.TallyLaws.{few_of, few_counted, tally_next}
 use Rattle.electrictest.specs.{PoolRuns.AreGiven, PoolRuns.outcomes, Tallies.IsTallyOf, Tallies.report_text, Wholes.numbered, Wholes.report}
 

@@ -1,7 +1,6 @@
 -- The units of the posts of a complete history are those of the tests of the set, each once.
 use Rattle.std.proofs.Common.{◌≡◌, ℕ, ◌+◌, List, [], ◌∷◌, false, cond, nat_eq, sum_by, fold, refl, sym, ap, ◌∙◌, subst, arith, inl, inr}
-use Rattle.std.proofs.lemmas.Bool.{eq-eqb, ne_eqb}
-use Rattle.std.proofs.lemmas.List.Sums.{sum_by-cons}
+use Rattle.std.proofs.lemmas.{Bool.eq-eqb, Bool.ne_eqb, List.Sums.sum_by-cons}
 use Rattle.jvm_model.specs.declared.outcome.Outcome.{Outcome}
 use Rattle.order_law.specs.Conflicts.{Member, Distinct}
 use Rattle.order_law.specs.Plan as law

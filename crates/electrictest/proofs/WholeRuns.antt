@@ -1,19 +1,15 @@
 -- The run of a whole suite: its outcomes and units, and how it is answered where it passes a number of units.
 use Rattle.std.proofs.Common.{◌≡◌, ℕ, ◌+◌, ◌≤◌, List, [], ◌∷◌, length, map, refl, sym, ◌∙◌, ap, subst, arith, Option, Some, None}
-use Rattle.std.proofs.lemmas.List.{length-map}
-use Rattle.std.proofs.lemmas.List.FromFn.{length-range_with_len}
+use Rattle.std.proofs.lemmas.List.{length-map, FromFn.length-range_with_len}
 use Rattle.std.specs.Prelude.{option_map}
-use Rattle.jvm_model.specs.declared.{outcome.Outcome.Outcome, values.Touch.Touch}
-use Rattle.jvm_model.specs.World.{World}
+use Rattle.jvm_model.specs.{declared.outcome.Outcome.Outcome, declared.values.Touch.Touch, World.World}
 use Rattle.jvm_model.specs.Suite.{Given, over_budget, over_suite, suite_fault, runs, runs_on, all_tests, opening, units_of}
 use Rattle.vm_mem.specs.Trace.{Trace}
 use Rattle.test_run.specs.Lists.{RanList}
-use Rattle.detect_run.specs.declared.fault.DetectFault.{DetectFault}
+use Rattle.detect_run.specs.{declared.fault.DetectFault.DetectFault, SuiteRun.IsSuiteFault}
 use Rattle.detect_run.specs.declared.fault.DetectFault.TheVariants as fault
-use Rattle.detect_run.specs.SuiteRun.{IsSuiteFault}
 use Rattle.suite_load.specs.declared.loaded.Loaded.{Loaded}
-use Rattle.electrictest.specs.declared.status.Status.{Status}
-use Rattle.electrictest.specs.{Running.Ran, Running.RunRefused, TestNames.units_in, Tests.passed_units, Wholes.outcomes_of}
+use Rattle.electrictest.specs.{declared.status.Status.Status, Running.Ran, Running.RunRefused, TestNames.units_in, Tests.passed_units, Wholes.outcomes_of}
 
 units_alike : (xs : List Given) → units_in (map (λ (x : Given). x.outcome) xs) ≡ units_of xs
 units_alike [] = refl

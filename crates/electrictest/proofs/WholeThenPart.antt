@@ -1,13 +1,11 @@
 -- Lists of whole chains and the first tests of one more, by the suite's own record.
 use Rattle.std.proofs.Common.{◌≡◌, ◌⊎◌, ℕ, ◌<◌, List, [], ◌∷◌, ◌++◌, append_assoc, append-nil, reverse, true, Some, None, refl, sym, ap, ◌∙◌, subst, arith, inl, inr}
 use Rattle.std.proofs.lemmas.List.{reverse-append, reverse-reverse}
-use Rattle.jvm_model.specs.declared.program.Program.{Program}
-use Rattle.jvm_model.specs.{Linked.Linked, State.test_at, World.World}
+use Rattle.jvm_model.specs.{declared.program.Program.Program, Linked.Linked, State.test_at, World.World}
 use Rattle.jvm_model.specs.Suite.{outcome_in, last_outcome, one_test, is_detected}
 use Rattle.jvm_model.proofs.Runs.{last_outcome_is}
-use Rattle.order_law.specs.declared.edges.{Edge.Edge, EdgeKind.TheVariants.Raw}
+use Rattle.order_law.specs.{declared.edges.Edge.Edge, declared.edges.EdgeKind.TheVariants.Raw, Histories.RecordOf, Histories.IsTestNumber}
 use Rattle.order_law.specs.Conflicts.{Member, Distinct, edge, Fits, History, ClosedUnderRaw, itself, forth, back}
-use Rattle.order_law.specs.Histories.{RecordOf, IsTestNumber}
 use Rattle.order_law.specs.Plan.{Ascending, AreChainsOf, IsWholeThenPart, chain_at, whole_chains}
 use Rattle.order_law.proofs.{Plans.before_rises, Plans.next_outcome, Posts.member_mid, Posts.below_mid, Posts.reversed}
 use Rattle.worker_pool.specs.Plans.{GivesNone}

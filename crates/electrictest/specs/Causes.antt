@@ -1,10 +1,9 @@
 -- What the words alone decide of an answer, whatever a depot tells (this project's).
 use Rattle.std.specs.Prelude.{◌≡◌, Bool, true, false, None, Ok, Err}
-use Rattle.electrictest.specs.declared.{status.InputFault.InputFault, words.Command.Command}
+use Rattle.electrictest.specs.{declared.status.InputFault.InputFault, declared.words.Command.Command, Words.Asking, Words.refusal_of}
 use Rattle.electrictest.specs.declared.status.InputFault.TheVariants as input
 use Rattle.electrictest.specs.declared.words.Command.TheVariants as command
 use Rattle.electrictest.specs.declared.words.WordsFault.TheVariants as fault
-use Rattle.electrictest.specs.Words.{Asking, refusal_of}
 
 -- ---- kinds of commands
 

@@ -6,11 +6,10 @@ use Rattle.class_reader.specs.declared.fault.ClassFault.TheVariants as class
 use Rattle.class_link.specs.declared.fault.LinkFault.TheVariants as linking
 use Rattle.type_frames.specs.declared.fault.CheckFault.TheVariants as checking
 use Rattle.suite_load.specs.declared.loaded.Loaded.{Loaded}
-use Rattle.electrictest.specs.declared.status.{InputFault.InputFault, Status.Status}
+use Rattle.electrictest.specs.{declared.status.InputFault.InputFault, declared.status.Status.Status, Words.Ask, Words.unformed, Loads.LoadsFor}
 use Rattle.electrictest.specs.declared.status.InputFault.TheVariants as input
 use Rattle.electrictest.specs.declared.status.Status.TheVariants as ends
 use Rattle.electrictest.specs.Causes.{AsksSuch, MayRefuse, MayReport, IsOfName, IsOfRecord, reads_files, runs_tests}
-use Rattle.electrictest.specs.{Words.Ask, Words.unformed, Loads.LoadsFor}
 use Rattle.electrictest.specs.Replies.{fault_line, Reports, Unreported, IsAnswer}
 
 -- want of memory is answered by itself alone, and a test line that names no test by its line

@@ -1,13 +1,11 @@
 -- When a call gives the text that it is asked for: what is asked is accepted, and nothing failed (this project's).
 use Rattle.std.specs.Prelude.{◌≡◌, ◌<◌, ◌≤◌, ◌-◌, ◌^◌, ℕ, List, length, Some, None, Ok, IfSome, IsOk}
 use Rattle.order_law.specs.Conflicts.{Lawful}
-use Rattle.outside.specs.{Counts.Rose, QuietSink.QuietSinkState, Sink.SinkView}
-use Rattle.outside.specs.Depot.{Files, DepotView, all_files}
+use Rattle.outside.specs.{Counts.Rose, QuietSink.QuietSinkState, Sink.SinkView, Depot.Files, Depot.DepotView, Depot.all_files}
 use Rattle.suite_load.specs.declared.loaded.Loaded.{Loaded}
-use Rattle.electrictest.specs.declared.status.Status.{Status}
+use Rattle.electrictest.specs.{declared.status.Status.Status, Commands.Asked, Commands.Replied, Commands.Served, Commands.called}
 use Rattle.electrictest.specs.declared.status.Status.TheVariants as ends
 use Rattle.electrictest.specs.declared.words.Command.TheVariants as command
-use Rattle.electrictest.specs.Commands.{Asked, Replied, Served, called}
 use Rattle.electrictest.specs.{Loads.LoadsFor, Loads.begun_by, Records.Beginning, Replies.IsAnswer, Words.Ask}
 
 -- The words are in form, and the suite loads. Where the command has a record, each name is that of a test, and the record is in

@@ -5,13 +5,11 @@ use Rattle.jvm_model.specs.{Suite.seq, Suite.is_detected, Texts.outcome_lines}
 use Rattle.order_law.specs.{Conflicts.Member, Histories.IsTestNumber}
 use Rattle.class_pool.specs.Grammar.{IsBytes}
 use Rattle.outside.specs.{Depot.Files, Depot.content, Sink.SinkView}
-use Rattle.suite_load.specs.declared.loaded.Loaded.{Loaded}
-use Rattle.suite_load.specs.Loading.{bytes_of}
+use Rattle.suite_load.specs.{declared.loaded.Loaded.Loaded, Loading.bytes_of}
 use Rattle.impact_pick.specs.ImpactText.{text_on}
-use Rattle.electrictest.specs.declared.status.Status.{Status}
+use Rattle.electrictest.specs.{declared.status.Status.Status, Commands.Asked, Commands.Whole, Detections.IsFound, Detections.recorded, Loads.LoadsFor}
 use Rattle.electrictest.specs.declared.words.Command.TheVariants as command
-use Rattle.electrictest.specs.{Commands.Asked, Commands.Whole, Detections.IsFound, Detections.recorded, Loads.LoadsFor, OwnRecords.OwnEndsBy}
-use Rattle.electrictest.specs.Words.{Ask, word_at}
+use Rattle.electrictest.specs.{OwnRecords.OwnEndsBy, Words.Ask, Words.word_at}
 
 -- each file is one of bytes
 abbrev pub HoldBytes : Files → Type 0

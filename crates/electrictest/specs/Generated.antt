@@ -2,18 +2,13 @@
 use Rattle.std.specs.Prelude.{◌≡◌, ℕ, ◌+◌, ◌-◌, ◌/◌, List, [], ◌∷◌, ◌++◌, length, map, codes, decimal, count_by, sum, Bool, true}
 use Rattle.std.specs.List.{range_with_len}
 use Rattle.dep_record.specs.RecordText.{said}
-use Rattle.generated_law.specs.GeneratedRecord.{is_raw, is_waw, is_war}
-use Rattle.generated_law.specs.{GeneratedRun.outcome_of, GeneratedSuite.generated_suite}
-use Rattle.jvm_model.specs.declared.outcome.Outcome.{Outcome}
-use Rattle.jvm_model.specs.{Suite.is_detected, Suite.all_tests, Texts.count_line}
-use Rattle.order_law.specs.declared.records.Record.{Record}
-use Rattle.order_law.specs.Reach.{IsRecordOf}
+use Rattle.generated_law.specs.{GeneratedRecord.is_raw, GeneratedRecord.is_waw, GeneratedRecord.is_war, GeneratedRun.outcome_of, GeneratedSuite.generated_suite}
+use Rattle.jvm_model.specs.{declared.outcome.Outcome.Outcome, Suite.is_detected, Suite.all_tests, Texts.count_line}
+use Rattle.order_law.specs.{declared.records.Record.Record, Reach.IsRecordOf}
 use Rattle.suite_gen.specs.Generated.{group_count}
 use Rattle.suite_load.specs.declared.loaded.Loaded.{Loaded}
-use Rattle.test_run.specs.declared.tallies.Tally.{Tally}
-use Rattle.test_run.specs.Tallies.{IsCount}
-use Rattle.electrictest.specs.declared.recorded.Request.{Request}
-use Rattle.electrictest.specs.{PoolRuns.IsPoolRan, PoolRuns.outcomes, Records.Beginning}
+use Rattle.test_run.specs.{declared.tallies.Tally.Tally, Tallies.IsCount}
+use Rattle.electrictest.specs.{declared.recorded.Request.Request, PoolRuns.IsPoolRan, PoolRuns.outcomes, Records.Beginning}
 
 -- ---- the text
 

@@ -1,9 +1,8 @@
 -- What the words of a generated suite are answered, whatever a depot tells: no file of it is read (this project's).
 use Rattle.std.specs.Prelude.{◌≡◌, ℕ, List, true, Result, IfOk, IfErr}
 use Rattle.outside.specs.{Depot.DepotView, Sink.SinkView}
-use Rattle.electrictest.specs.declared.{reports.Report.Report, status.Status.Status}
+use Rattle.electrictest.specs.{declared.reports.Report.Report, declared.status.Status.Status, Commands.Whole, Generated.Sums, Words.Ask, Words.OfGenerated}
 use Rattle.electrictest.specs.declared.status.Status.TheVariants as ends
-use Rattle.electrictest.specs.{Commands.Whole, Generated.Sums, Words.Ask, Words.OfGenerated}
 
 -- a summary of the generated suite was written, and its units are counted
 pub record WroteSummary (k workers : ℕ) (begun now : ℕ) (old new : SinkView) : Type 0 where

@@ -1,7 +1,6 @@
 -- Laws on faults that a suite's own run, a record's size, a depot or a sink may be answered by (this project's).
 use Rattle.std.specs.Prelude.{◌≡◌, ◌<◌, ◌≤◌, ◌-◌, ◌^◌, ◌↔◌, ℕ, List, length, true, None}
-use Rattle.jvm_model.specs.declared.program.Program.{Program}
-use Rattle.jvm_model.specs.Suite.{is_detected, suite_fault}
+use Rattle.jvm_model.specs.{declared.program.Program.Program, Suite.is_detected, Suite.suite_fault}
 use Rattle.order_law.specs.declared.records.Record.{Record}
 use Rattle.outside.specs.{Depot.DepotView, Depot.FailedAt, Sink.SinkView, Sink.HasRoom}
 use Rattle.dep_record.specs.RecordText.{said, has_hashes, record_text}

@@ -3,17 +3,15 @@ use Rattle.std.specs.Prelude.{◌≡◌, ◌≤◌, ℕ, ◌-◌, length, List, 
 use Rattle.jvm_model.specs.Builtin.{builtin_count}
 use Rattle.outside.specs.Depot.{Files}
 use Rattle.dep_record.specs.RecordText.{Said}
-use Rattle.suite_load.specs.declared.{load_fault.LoadFault.LoadFault, loaded.Loaded.Loaded}
+use Rattle.suite_load.specs.{declared.load_fault.LoadFault.LoadFault, declared.loaded.Loaded.Loaded, Loading.Loads, Loading.IsRead}
 use Rattle.suite_load.specs.declared.load_fault.LoadFault.TheVariants as fault
-use Rattle.suite_load.specs.Loading.{Loads, IsRead}
 use Rattle.quiet_init.specs.Quiet.{quiet}
-use Rattle.electrictest.specs.declared.status.{Status.Status, InputFault.InputFault}
+use Rattle.electrictest.specs.{declared.status.Status.Status, declared.status.InputFault.InputFault, Causes.AsksAny, Selections.ordered, Selections.selected}
 use Rattle.electrictest.specs.declared.status.Status.TheVariants as ends
 use Rattle.electrictest.specs.declared.status.InputFault.TheVariants as input
 use Rattle.electrictest.specs.declared.words.Command.TheVariants as command
-use Rattle.electrictest.specs.{Causes.AsksAny, Selections.ordered, Selections.selected}
-use Rattle.electrictest.specs.Words.{Asking, Ask, is_eager, suite_word, word_at}
 use Rattle.electrictest.specs.Records.{Beginning, begun, record_fits, earlier_fits}
+use Rattle.electrictest.specs.Words.{Asking, Ask, is_eager, suite_word, word_at}
 
 -- how a fault of loading is answered
 abbrev pub status_of : LoadFault → Status

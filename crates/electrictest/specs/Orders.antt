@@ -1,8 +1,7 @@
 -- What an order gives, by a loaded suite and what it begins with (this project's).
 use Rattle.std.specs.Prelude.{◌≡◌, ℕ, ◌+◌, nat_eq, List, [], ◌∷◌, length, map, filter, flat_map, true, Bool, Some, None, Ok}
 use Rattle.std.specs.List.{list_all, range_with_len}
-use Rattle.jvm_model.specs.declared.{outcome.Outcome.Outcome, program.Names.Names}
-use Rattle.jvm_model.specs.{State.test_at, Texts.is_passed, Texts.report_on}
+use Rattle.jvm_model.specs.{declared.outcome.Outcome.Outcome, declared.program.Names.Names, State.test_at, Texts.is_passed, Texts.report_on}
 use Rattle.jvm_model.specs.Suite.{Given, runs, first_over, is_detected}
 use Rattle.order_law.specs.{Conflicts.Lawful, Histories.AreSequential, OwnRecord.edges_of}
 use Rattle.order_law.specs.OrderFault.{OrderFault, IsOrderFault, twice, missing_writer, inverted}

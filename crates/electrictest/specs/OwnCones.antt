@@ -1,11 +1,8 @@
 -- Cones and the manifest with the suite's own record (this project's).
 use Rattle.std.specs.Prelude.{◌≡◌, ◌⊎◌, ℕ, ◌+◌, List, [], map, Bool, Some, Ok}
-use Rattle.jvm_model.specs.declared.{outcome.Outcome.Outcome, program.Program.Program}
-use Rattle.jvm_model.specs.Suite.{last_outcome, seq}
-use Rattle.order_law.specs.declared.{edges.Edge.Edge, records.Record.Record}
-use Rattle.order_law.specs.{Conflicts.Member, OwnRecord.edges_of}
-use Rattle.cone_run.specs.declared.marks.Mark.{Mark}
-use Rattle.cone_run.specs.{Cones.IsCone, ConesText.outcomes, Marks.IsEffect, Marks.without}
+use Rattle.jvm_model.specs.{declared.outcome.Outcome.Outcome, declared.program.Program.Program, Suite.last_outcome, Suite.seq}
+use Rattle.order_law.specs.{declared.edges.Edge.Edge, declared.records.Record.Record, Conflicts.Member, OwnRecord.edges_of}
+use Rattle.cone_run.specs.{declared.marks.Mark.Mark, Cones.IsCone, ConesText.outcomes, Marks.IsEffect, Marks.without}
 use Rattle.outside.specs.{Depot.Files, Sink.SinkView}
 use Rattle.suite_load.specs.declared.loaded.Loaded.{Loaded}
 use Rattle.electrictest.specs.declared.{status.Status.Status, words.Command.Command}

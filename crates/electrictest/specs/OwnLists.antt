@@ -1,16 +1,13 @@
 -- Orders with the suite's own record (this project's).
 use Rattle.std.specs.Prelude.{◌≡◌, ℕ, ◌+◌, List, map, Bool, Some, Ok}
 use Rattle.std.specs.List.{list_all}
-use Rattle.jvm_model.specs.declared.outcome.Outcome.{Outcome}
-use Rattle.jvm_model.specs.{Suite.seq, Texts.is_passed}
-use Rattle.order_law.specs.declared.records.Record.{Record}
-use Rattle.order_law.specs.{Conflicts.Lawful, OwnRecord.edges_of}
+use Rattle.jvm_model.specs.{declared.outcome.Outcome.Outcome, Suite.seq, Texts.is_passed}
+use Rattle.order_law.specs.{declared.records.Record.Record, Conflicts.Lawful, OwnRecord.edges_of}
 use Rattle.outside.specs.{Depot.Files, Sink.SinkView}
 use Rattle.suite_load.specs.declared.loaded.Loaded.{Loaded}
-use Rattle.electrictest.specs.declared.status.Status.{Status}
+use Rattle.electrictest.specs.{declared.status.Status.Status, Commands.Asked, Commands.Whole, Orders.order_report, Selections.ordered, TestNames.units_in}
 use Rattle.electrictest.specs.declared.words.Command.TheVariants as command
-use Rattle.electrictest.specs.{Commands.Asked, Commands.Whole, Orders.order_report, Selections.ordered, TestNames.units_in, Words.Ask, Words.word_at}
-use Rattle.electrictest.specs.OwnRecords.{AsksOwnRecord, HoldsSaying, HoldsText, OwnEndsBy}
+use Rattle.electrictest.specs.{Words.Ask, Words.word_at, OwnRecords.AsksOwnRecord, OwnRecords.HoldsSaying, OwnRecords.HoldsText, OwnRecords.OwnEndsBy}
 
 -- the words ask for an order of these tests, by the suite's own record, and it is lawful by that
 pub record AsksOwnOrder (Holds : Files → List ℕ → Record → Type 0) (files : Files) (a : Ask) (l : Loaded) (tests : List ℕ) : Type 0 where

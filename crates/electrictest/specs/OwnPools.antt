@@ -1,7 +1,6 @@
 -- Runs on workers with the suite's own record (this project's).
 use Rattle.std.specs.Prelude.{◌≡◌, ℕ, ◌+◌, List, Bool, Ok}
-use Rattle.order_law.specs.declared.records.Record.{Record}
-use Rattle.order_law.specs.OwnRecord.{edges_of}
+use Rattle.order_law.specs.{declared.records.Record.Record, OwnRecord.edges_of}
 use Rattle.outside.specs.{Depot.Files, Sink.SinkView}
 use Rattle.suite_load.specs.declared.loaded.Loaded.{Loaded}
 use Rattle.electrictest.specs.declared.status.Status.{Status}

@@ -1,14 +1,12 @@
 -- Commands with the record of the suite's own run (this project's).
 use Rattle.std.specs.Prelude.{◌≡◌, ℕ, List, Bool, true, false, Some, Ok}
 use Rattle.jvm_model.specs.Suite.{is_detected}
-use Rattle.order_law.specs.declared.records.Record.{Record}
-use Rattle.order_law.specs.Reach.{IsRecordOf}
+use Rattle.order_law.specs.{declared.records.Record.Record, Reach.IsRecordOf}
 use Rattle.outside.specs.{Depot.Files, Depot.content, Sink.SinkView}
 use Rattle.dep_record.specs.{RecordReading.said_in, RecordText.said, RecordText.record_text}
 use Rattle.suite_load.specs.declared.loaded.Loaded.{Loaded}
-use Rattle.electrictest.specs.declared.status.Status.{Status}
+use Rattle.electrictest.specs.{declared.status.Status.Status, Loads.LoadsFor, Records.record_bytes, Words.Ask, Words.word_at}
 use Rattle.electrictest.specs.declared.status.Status.TheVariants as ends
-use Rattle.electrictest.specs.{Loads.LoadsFor, Records.record_bytes, Words.Ask, Words.word_at}
 
 -- how the file of this name holds a record: its bytes say what the record says, in whichever version; or they are the record's
 -- text, which `detect` writes in version 2

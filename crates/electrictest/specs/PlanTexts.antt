@@ -1,8 +1,7 @@
 -- The text of a plan (this project's).
 use Rattle.std.specs.Prelude.{ℕ, ◌+◌, List, [], ◌∷◌, ◌++◌, map, codes, decimal}
 use Rattle.dep_record.specs.RecordText.{numbers_text}
-use Rattle.schedule_plan.specs.Plans.{units_of}
-use Rattle.schedule_plan.specs.declared.shares.Share.{Share}
+use Rattle.schedule_plan.specs.{declared.shares.Share.Share, Plans.units_of}
 
 -- `units U` at the end of a line
 abbrev pub units_end : ℕ → List ℕ

@@ -3,8 +3,7 @@ use Rattle.std.specs.Prelude.{◌≡◌, ℕ, List, Bool, true, Ok}
 use Rattle.order_law.specs.{Conflicts.Member, Plan.AreListedChainsOf}
 use Rattle.outside.specs.Depot.{Files}
 use Rattle.selection_close.specs.Closed.{IsClosure}
-use Rattle.schedule_plan.specs.Plans.{IsPlanOf, chain_units}
-use Rattle.schedule_plan.specs.declared.shares.Share.{Share}
+use Rattle.schedule_plan.specs.{declared.shares.Share.Share, Plans.IsPlanOf, Plans.chain_units}
 use Rattle.suite_load.specs.declared.loaded.Loaded.{Loaded}
 use Rattle.electrictest.specs.{Words.Ask, Records.Beginning, Loads.Begins, PlanTexts.plan_text}
 

@@ -1,8 +1,7 @@
 -- What a run of a selection on workers gives, by a loaded suite and what it begins with (this project's).
 use Rattle.std.specs.Prelude.{◌≡◌, ℕ, ◌+◌, List, [], ◌∷◌, ◌++◌, length, map, Bool, true, cond, Some, Ok}
 use Rattle.std.specs.List.{list_all}
-use Rattle.jvm_model.specs.declared.outcome.Outcome.{Outcome}
-use Rattle.jvm_model.specs.{Linked.Linked, State.test_at, Suite.seq, Suite.is_detected, Texts.is_passed, Texts.report_on}
+use Rattle.jvm_model.specs.{declared.outcome.Outcome.Outcome, Linked.Linked, State.test_at, Suite.seq, Suite.is_detected, Texts.is_passed, Texts.report_on}
 use Rattle.order_law.specs.{Conflicts.Member, Histories.IsTestNumber, OwnRecord.edges_of}
 use Rattle.order_law.specs.Plan.{Event, Legal, IsComplete, IsWholeThenPart, AreListedChainsOf}
 use Rattle.run_core.specs.Run.{Gave}

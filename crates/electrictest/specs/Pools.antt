@@ -3,8 +3,7 @@ use Rattle.std.specs.Prelude.{◌≡◌, ℕ}
 use Rattle.order_law.specs.{Conflicts.Member, Histories.IsTestNumber}
 use Rattle.run_core.specs.Run.{IsLegal, IsComplete}
 use Rattle.suite_load.specs.declared.loaded.Loaded.{Loaded}
-use Rattle.electrictest.specs.declared.pool_runs.RunResult.{RunResult}
-use Rattle.electrictest.specs.{PoolRuns.IsChosen, Records.Beginning}
+use Rattle.electrictest.specs.{declared.pool_runs.RunResult.RunResult, PoolRuns.IsChosen, Records.Beginning}
 
 -- The closure of a selection ran on so many workers: the core holds a legal and complete history of its chains.
 pub record IsPooled (l : Loaded) (b : Beginning) (workers : ℕ) (p : RunResult) : Type 0 where

@@ -4,8 +4,7 @@ use Rattle.std.specs.Str.{bytes_eq}
 pub use Rattle.et_base.specs.Answers.{◌>>=◌}
 use Rattle.et_base.specs.Answers as answers
 pub use Rattle.et_base.specs.Answers.{nothing}
-use Rattle.outside.specs.Depot.{Files, content}
-use Rattle.outside.specs.declared.depot.DepotRefusal.{DepotRefusal}
+use Rattle.outside.specs.{declared.depot.DepotRefusal.DepotRefusal, Depot.Files, Depot.content}
 use Rattle.outside.specs.declared.depot.DepotRefusal.TheVariants as refused
 use Rattle.order_law.specs.declared.records.{More.More, Record.Record}
 use Rattle.dep_record.specs.{RecordText.Said, RecordText.said, RecordReading.said_in}

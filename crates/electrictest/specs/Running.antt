@@ -1,14 +1,12 @@
 -- The whole suite run in order, and lists of tests.
 use Rattle.std.specs.Prelude.{◌≡◌, ℕ, ◌+◌, ◌≤◌, List, [], length, map, Bool, Some, None}
 use Rattle.std.specs.List.{list_all}
-use Rattle.jvm_model.specs.{Texts.is_passed, State.test_at}
-use Rattle.jvm_model.specs.declared.outcome.Outcome.{Outcome}
+use Rattle.jvm_model.specs.{declared.outcome.Outcome.Outcome, Texts.is_passed, State.test_at}
 use Rattle.jvm_model.specs.Suite.{Given, SuiteFault, suite_fault, runs, first_over}
 use Rattle.suite_load.specs.declared.loaded.Loaded.{Loaded}
-use Rattle.electrictest.specs.declared.status.Status.{Status}
+use Rattle.electrictest.specs.{declared.status.Status.Status, Orders.IsUnlawful, Orders.IsOverOrder, Records.Beginning, TestNames.test_name, TestNames.units_in}
 use Rattle.electrictest.specs.declared.status.Status.TheVariants as ends
 use Rattle.electrictest.specs.declared.status.OverFault.TheVariants as over
-use Rattle.electrictest.specs.{Orders.IsUnlawful, Orders.IsOverOrder, Records.Beginning, TestNames.test_name, TestNames.units_in}
 use Rattle.electrictest.specs.Wholes.{over_fault, outcomes_of, report}
 
 -- the run of a whole suite that is within its limits

@@ -1,10 +1,8 @@
 -- Reports on tests by their lines and how many ended with each verdict.
 use Rattle.std.specs.Prelude.{◌≡◌, ℕ, ◌++◌, List, ◌∷◌, length, codes, Option}
-use Rattle.jvm_model.specs.declared.{outcome.Outcome.Outcome, program.Names.Names}
-use Rattle.jvm_model.specs.Texts.{head_line, count_line}
+use Rattle.jvm_model.specs.{declared.outcome.Outcome.Outcome, declared.program.Names.Names, Texts.head_line, Texts.count_line}
 use Rattle.order_law.specs.Plan.{Event}
-use Rattle.test_run.specs.declared.tallies.{Counts.Counts, Tally.Tally}
-use Rattle.test_run.specs.Tallies.{IsTally}
+use Rattle.test_run.specs.{declared.tallies.Counts.Counts, declared.tallies.Tally.Tally, Tallies.IsTally}
 use Rattle.electrictest.specs.PoolRuns.{AreGiven}
 
 -- the report on tests by their lines and counts, of which so many were selected and executed, in so many chains

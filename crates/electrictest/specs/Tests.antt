@@ -1,16 +1,14 @@
 -- How a list of tests or a suite is answered that passes a number of units.
 use Rattle.std.specs.Prelude.{[]}
-use Rattle.jvm_model.specs.declared.program.Names.{Names}
-use Rattle.jvm_model.specs.State.{test_at}
+use Rattle.jvm_model.specs.{declared.program.Names.Names, State.test_at}
 use Rattle.detect_run.specs.declared.fault.DetectFault.{DetectFault}
 use Rattle.detect_run.specs.declared.fault.DetectFault.TheVariants as fault
 use Rattle.suite_load.specs.declared.loaded.Loaded.{Loaded}
 use Rattle.test_run.specs.declared.run_fault.RunFault.{RunFault}
 use Rattle.test_run.specs.declared.run_fault.RunFault.TheVariants as run
-use Rattle.electrictest.specs.declared.status.Status.{Status}
+use Rattle.electrictest.specs.{declared.status.Status.Status, TestNames.test_name}
 use Rattle.electrictest.specs.declared.status.Status.TheVariants as ends
 use Rattle.electrictest.specs.declared.status.OverFault.TheVariants as over
-use Rattle.electrictest.specs.TestNames.{test_name}
 
 -- a list of tests, by the name of the test that passes its budget
 abbrev pub list_status : Loaded → RunFault → Status

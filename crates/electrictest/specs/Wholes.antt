@@ -1,14 +1,12 @@
 -- What a run of the whole suite gives (this project's).
 use Rattle.std.specs.Prelude.{◌≡◌, ℕ, ◌+◌, List, [], ◌∷◌, length, map, Bool, Option, Some, None, option_map, Ok}
 use Rattle.std.specs.List.{list_all}
-use Rattle.jvm_model.specs.declared.{outcome.Outcome.Outcome, program.Names.Names, program.Program.Program}
+use Rattle.jvm_model.specs.{declared.outcome.Outcome.Outcome, declared.program.Names.Names, declared.program.Program.Program, Texts.is_passed, Texts.report_on}
 use Rattle.jvm_model.specs.Suite.{SuiteFault, over_budget, over_suite, runs, all_tests, suite_fault}
-use Rattle.jvm_model.specs.Texts.{is_passed, report_on}
 use Rattle.outside.specs.Depot.{Files}
 use Rattle.suite_load.specs.declared.loaded.Loaded.{Loaded}
-use Rattle.electrictest.specs.declared.status.OverFault.{OverFault}
+use Rattle.electrictest.specs.{declared.status.OverFault.OverFault, Words.Ask, Loads.LoadsFor, TestNames.test_name, TestNames.units_in}
 use Rattle.electrictest.specs.declared.status.OverFault.TheVariants as over
-use Rattle.electrictest.specs.{Words.Ask, Loads.LoadsFor, TestNames.test_name, TestNames.units_in}
 
 -- the outcomes of the whole suite in order on one heap
 unfoldable pub outcomes_of : Program → Option (List Outcome)

@@ -4,8 +4,7 @@ ghost use Rattle.std.specs.Prelude.{◌≡◌, ◌<◌, ◌≤◌, All, Ok, leng
 ghost use Rattle.outside.specs.Depot.{TellsOn};
 ghost use Rattle.order_law.specs.Conflicts.{Member};
 ghost use Rattle.test_run.specs.Running.{IsTest};
-ghost use Rattle.electrictest.specs.{Causes.MayReport, Loads.IsSuite, Records.beginning};
-ghost use Rattle.electrictest.specs.Commands.{ReportEnds, ReportsOver, RefusedOver};
+ghost use Rattle.electrictest.specs.{Causes.MayReport, Loads.IsSuite, Records.beginning, Commands.ReportEnds, Commands.ReportsOver, Commands.RefusedOver};
 ghost use Rattle.electrictest.specs.ConeRuns.{AreCounted, ConesRefused, IsConeReport};
 ghost use Rattle.electrictest.specs.declared.words.Command.TheVariants as command;
 

@@ -2,8 +2,7 @@
 
 ghost use Rattle.std.specs.Prelude.{◌≡◌, ℕ, Ok, IfOk, IfErr};
 ghost use Rattle.outside.specs.Depot.{Told, DepotView};
-ghost use Rattle.electrictest.specs.{Causes.MayReport, Words.Ask};
-ghost use Rattle.electrictest.specs.Commands.{ReportEnds, ReportsOver, RefusedOver};
+ghost use Rattle.electrictest.specs.{Causes.MayReport, Words.Ask, Commands.ReportEnds, Commands.ReportsOver, Commands.RefusedOver};
 ghost use Rattle.electrictest.specs.declared.words.Command.TheVariants as command;
 
 use crate::reports::Report;

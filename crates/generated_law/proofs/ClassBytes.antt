@@ -5,12 +5,10 @@ use Rattle.std.specs.{Int.w32, Int.to_be_bytes, List.flat_map, List.range_with_l
 use Rattle.std.proofs.lemmas.{Bool.and_from, List.append-nil}
 use Rattle.std.proofs.{lemmas.Bool.Decides.nat_tests, lemmas.List.FromFn.length-map-range_with_len, lemmas.List.FromFn.map-range_with_len_more}
 use Rattle.et_base.specs.Names.{is_unpointed, is_method_name, after_element, after_type, argument, arguments, argument_units}
-use Rattle.class_pool.specs.declared.pool.{Entry.Entry, Entry.TheVariants.Utf8}
-use Rattle.class_pool.specs.{Pool.entry_of, Pool.is_text, Pool.is_class, Grammar.Then, Grammar.Joined, Grammar.Counted}
-use Rattle.class_pool.specs.{PoolGrammar.pool_spelling, Grammar.Sized}
+use Rattle.class_pool.specs.{declared.pool.Entry.Entry, declared.pool.Entry.TheVariants.Utf8, Pool.entry_of, Pool.is_text, Pool.is_class}
+use Rattle.class_pool.specs.{Grammar.Then, Grammar.Joined, Grammar.Counted, Grammar.Sized, PoolGrammar.pool_spelling}
 use Rattle.class_pool.proofs.WriteLaw.{pool_written}
-use Rattle.class_reader.specs.declared.parts.MemberPart.{MemberPart}
-use Rattle.class_reader.specs.{Indices.Short, Indices.Index, Indices.Form, Faults.with_offsets}
+use Rattle.class_reader.specs.{declared.parts.MemberPart.MemberPart, Indices.Short, Indices.Index, Indices.Form, Faults.with_offsets}
 use Rattle.class_reader.specs.Names.{is_code, is_constant_value, is_own_class, is_field_name, is_field_type, is_method_type, same_text, is_repeated}
 use Rattle.class_reader.specs.Names as forms
 use Rattle.class_reader.specs.ClassGrammar.{OnceText, AttributesText, PartText, FieldText, FieldsText, MethodText, MethodsText, HeadText, MembersText, BodyText, class_bytes}

@@ -4,8 +4,7 @@ use Rattle.std.specs.Prelude.{codes}
 use Rattle.std.specs.List.{AllByRecursion, flat_map, range_with_len}
 use Rattle.std.proofs.lemmas.{Bool.le-leb, Fmt.length-decimal-le, List.length-append}
 use Rattle.outside.specs.Depot.{content}
-use Rattle.class_pool.specs.declared.pool.{Entry.Entry, Entry.TheVariants.Utf8}
-use Rattle.class_pool.specs.PoolGrammar.{slot_bytes}
+use Rattle.class_pool.specs.{declared.pool.Entry.Entry, declared.pool.Entry.TheVariants.Utf8, PoolGrammar.slot_bytes}
 use Rattle.code_decode.specs.Opcodes.{shape_of}
 use Rattle.class_write.specs.declared.names.Names.{Names}
 use Rattle.class_write.specs.Spelling.{short_bytes, listed_bytes, names_of, part_bytes, field_bytes, method_bytes, body_bytes, class_spelling}
@@ -17,8 +16,7 @@ use Rattle.suite_load.specs.Loading.{◌>>=◌, file_of, suite_answer, suite_in,
 use Rattle.class_reader.specs.Faults.{class_of}
 use Rattle.generated_law.specs.GeneratedSuite.{class_file, said_suite, suite_name, suite_files}
 use Rattle.generated_law.specs.GeneratedLaw.{ReadLaw}
-use Rattle.generated_law.proofs.{SuiteText.text_law, ClassBytes.class_law}
-use Rattle.generated_law.proofs.Pool.{each_slot, utf_short, slots_count}
+use Rattle.generated_law.proofs.{SuiteText.text_law, ClassBytes.class_law, Pool.each_slot, Pool.utf_short, Pool.slots_count}
 
 -- ---- the suite text
 

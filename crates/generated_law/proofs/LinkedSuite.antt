@@ -2,8 +2,7 @@
 use Rattle.std.proofs.Common.{◌≡◌, inl, inr, ℕ, zero, suc, ◌+◌, ◌%◌, ◌<◌, ◌≤◌, Bool, true, false, not, ◌&&◌, ◌||◌, cond, nat_eq, pos, is_some, is_none, List, [], ◌∷◌, ◌++◌, length, map, Option, Some, None, Result, Ok, Err, refl, sym, ap, subst, ◌∙◌, arith, append-nil}
 use Rattle.std.specs.Prelude.{codes, option_and_then}
 use Rattle.std.specs.List.{range_with_len}
-use Rattle.std.proofs.Math.Nat.{mod-eq_of_lt}
-use Rattle.std.proofs.lemmas.{Bool.eqb-true, List.append_assoc, List.length-append}
+use Rattle.std.proofs.{Math.Nat.mod-eq_of_lt, lemmas.Bool.eqb-true, lemmas.List.append_assoc, lemmas.List.length-append}
 use Rattle.et_base.specs.Answers.{◌>>=◌}
 use Rattle.et_base.proofs.Cases.{by_test}
 use Rattle.class_pool.specs.Pool.{entry_of}
@@ -20,10 +19,9 @@ use Rattle.member_lookup.specs.Ancestors.{IsFirstCycle}
 use Rattle.member_lookup.proofs.Ancestry.{none_builtin, none_more, none_all}
 use Rattle.code_forms.specs.declared.references.Target.TheVariants as target
 use Rattle.code_forms.specs.Forms.{form_of, constants, numbers, branches, members}
-use Rattle.class_link.specs.declared.fault.LinkFault.{LinkFault}
+use Rattle.class_link.specs.{declared.fault.LinkFault.LinkFault, ClassNames.name_at, ClassNames.missing, ClassNames.needed_class, References.target_of}
 use Rattle.class_link.specs.declared.fault.LinkFault.TheVariants as fault
-use Rattle.class_link.specs.ClassNames.{name_at, missing, needed_class}
-use Rattle.class_link.specs.{References.target_of, Bodies.linked_body, Assembly.assembled, Assembly.skeleton}
+use Rattle.class_link.specs.{Bodies.linked_body, Assembly.assembled, Assembly.skeleton}
 use Rattle.class_link.specs.Faults.{first_some, duplicate_fault, missing_or, wrong_unless, supertype_fits, supertype_fault, supertypes_fault, all_references_fault, holds_tests, is_test_method, test_in, test_entry, entry_with}
 use Rattle.class_link.specs.Link.{setting, unless, tests_of, program_of, link_by}
 use Rattle.suite_load.specs.Loading.{line_of, lines_of}

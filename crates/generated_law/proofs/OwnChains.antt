@@ -2,8 +2,7 @@
 use Rattle.std.proofs.Common.{◌≡◌, ℕ, zero, suc, ◌+◌, ◌-◌, ◌*◌, ◌%◌, ◌<◌, ◌≤◌, ◌↔◌, inl, inr, true, false, List, [], ◌∷◌, length, get_or, refl, sym, ap, subst, ◌∙◌, arith}
 use Rattle.std.proofs.lemmas.{Bool.both_ways, Bool.cases_lt, List.get_or_past}
 use Rattle.et_base.proofs.Cases.{by_test}
-use Rattle.jvm_model.specs.declared.{values.Location.Location, program.Program.Program}
-use Rattle.jvm_model.specs.World.{same}
+use Rattle.jvm_model.specs.{declared.values.Location.Location, declared.program.Program.Program, World.same}
 use Rattle.jvm_model.proofs.Locations.{same_true}
 use Rattle.order_law.specs.declared.edges.{Edge.Edge, EdgeKind.EdgeKind, EdgeKind.TheVariants.Raw, EdgeKind.TheVariants.Waw, EdgeKind.TheVariants.War}
 use Rattle.order_law.specs.Conflicts.{Member, Conflict, HasEdge, Before, edge, chain, Joined, itself, forth, back}

@@ -4,12 +4,10 @@ use Rattle.std.specs.List.{range_with_len}
 use Rattle.std.proofs.lemmas.List.Sums.{sum_by-append}
 use Rattle.std.proofs.lemmas.Bool.{and_from, lt-ltb, le-ltb, eqb-true, eq-eqb, ne_eqb, both_ways}
 use Rattle.et_base.proofs.Cases.{by_test}
-use Rattle.jvm_model.specs.declared.{values.Touch.Touch, values.Location.Location, program.Program.Program}
-use Rattle.jvm_model.specs.World.{same}
+use Rattle.jvm_model.specs.{declared.values.Touch.Touch, declared.values.Location.Location, declared.program.Program.Program, World.same}
 use Rattle.jvm_model.proofs.Locations.{same_refl}
 use Rattle.order_law.specs.declared.edges.{Edge.Edge, EdgeKind.EdgeKind, EdgeKind.TheVariants.Raw, EdgeKind.TheVariants.Waw, EdgeKind.TheVariants.War}
-use Rattle.order_law.specs.{Conflicts.Tests, Exposed.written, Exposed.exposed}
-use Rattle.order_law.specs.Histories.{Touches, writes_in, exposed_in}
+use Rattle.order_law.specs.{Conflicts.Tests, Exposed.written, Exposed.exposed, Histories.Touches, Histories.writes_in, Histories.exposed_in}
 use Rattle.order_law.specs.OwnRecord.{none_between, conflicts, first_places, places_in, conflict_places_in, edge_of, edges_between_in, edges_in}
 use Rattle.suite_gen.specs.Generated.{group_of, group_count}
 use Rattle.generated_law.specs.GeneratedSuite.{field_number}

@@ -3,15 +3,13 @@ use Rattle.std.proofs.Common.{◌≡◌, ℕ, zero, suc, ◌+◌, ◌-◌, ◌*�
 use Rattle.std.specs.Prelude.{codes}
 use Rattle.std.specs.List.{AllByRecursion, list_all, flat_map, range_with_len}
 use Rattle.std.proofs.lemmas.Bool.{lt-ltb, ltb-true, and_from, or_left, or_right}
-use Rattle.std.proofs.{lemmas.Bool.Decides.nat_tests, lemmas.List.Elements.All-from_recursion}
-use Rattle.std.proofs.lemmas.{Fmt.length-decimal-le, List.get_or-append-add, List.length-append}
-use Rattle.std.proofs.{lemmas.List.FromFn.length-map-range_with_len, lemmas.List.FromFn.get_or-map-range_with_len, lemmas.List.Sums.AllPass-from_list_all}
+use Rattle.std.proofs.lemmas.{Bool.Decides.nat_tests, List.Elements.All-from_recursion, Fmt.length-decimal-le, List.get_or-append-add, List.length-append}
+use Rattle.std.proofs.lemmas.List.{FromFn.length-map-range_with_len, FromFn.get_or-map-range_with_len, Sums.AllPass-from_list_all}
 use Rattle.et_base.specs.Utf.{utf, is_one, group, IsUnits}
 use Rattle.et_base.specs.Names.{is_plain, is_unqualified, is_method_name, is_class_name, is_class_entry_name, after_element, after_type, is_field_descriptor, is_method_descriptor, argument, arguments, argument_units}
-use Rattle.class_pool.specs.declared.pool.Entry.{Entry}
+use Rattle.class_pool.specs.{declared.pool.Entry.Entry, PoolGrammar.EntryFits, PoolGrammar.Laid, PoolGrammar.IsPool}
 use Rattle.class_pool.specs.declared.pool.Entry.TheVariants.{Utf8, Class, Field, Method, NameAndType}
 use Rattle.class_pool.specs.Pool.{entry_of, is_text, is_class, is_pair, is_wide, is_second, wants_at, in_text, is_descriptor, is_field_pair, is_method_pair, wrong_index, wrong_name}
-use Rattle.class_pool.specs.PoolGrammar.{EntryFits, Laid, IsPool}
 use Rattle.suite_gen.specs.Generated.{group_count, common_slots, group_slots, test_slot, slots}
 use Rattle.generated_law.proofs.Decimals.{decimal_passes}
 

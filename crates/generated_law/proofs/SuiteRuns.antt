@@ -3,8 +3,7 @@ use Rattle.std.proofs.Common.{◌≡◌, ℕ, zero, suc, ◌+◌, ◌-◌, ◌*�
 use Rattle.std.specs.Prelude.{codes}
 use Rattle.std.specs.List.{list_all, list_any, range_with_len}
 use Rattle.std.proofs.lemmas.Bool.{and_from, le-leb, eqb-true, eq-eqb, ne_eqb, both_ways}
-use Rattle.std.proofs.lemmas.{Fmt.length-decimal-le, List.length-append}
-use Rattle.std.proofs.lemmas.List.FromFn.{length-map-range_with_len, get_or-map-range_with_len}
+use Rattle.std.proofs.lemmas.{Fmt.length-decimal-le, List.length-append, List.FromFn.length-map-range_with_len, List.FromFn.get_or-map-range_with_len}
 use Rattle.et_base.proofs.Cases.{by_test}
 use Rattle.jvm_model.specs.declared.values.Value.TheVariants as value
 use Rattle.jvm_model.specs.declared.{values.Touch.Touch, outcome.Outcome.Outcome, outcome.Verdict.TheVariants.Passed}
@@ -22,8 +21,7 @@ use Rattle.generated_law.specs.GeneratedSuite.{field_number, method_number, prin
 use Rattle.generated_law.specs.GeneratedRun.{value_before, line_of, passed_with, outcome_of, RunLaw}
 use Rattle.generated_law.specs.GeneratedRecord.{touch_of, touches_at, is_raw, is_waw, is_war, RecordLaw, ChainLaw}
 use Rattle.generated_law.proofs.Members.{class_is, field_is, method_is, holds_builtins, object_is, object_above, object_interfaces, two_up}
-use Rattle.generated_law.proofs.{TestSteps.Prints, OwnChains.count_chains}
-use Rattle.generated_law.proofs.TestRuns.{CallsOn, setting_run, printing_run, adding_run}
+use Rattle.generated_law.proofs.{TestSteps.Prints, OwnChains.count_chains, TestRuns.CallsOn, TestRuns.setting_run, TestRuns.printing_run, TestRuns.adding_run}
 use Rattle.generated_law.proofs.OwnEdges.{raw_count, waw_count, war_count}
 
 -- ---- classes that are used without a step

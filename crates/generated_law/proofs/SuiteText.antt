@@ -4,19 +4,16 @@ use Rattle.std.specs.Prelude.{codes}
 use Rattle.std.specs.List.{list_all, list_any, flat_map, range_with_len, slice_split, suffix_len, position_or_len}
 use Rattle.std.specs.Str.{bytes_eq}
 use Rattle.std.proofs.lemmas.Bool.{and_from, le-ltb, lt-ltb, ne_eqb, le-leb}
-use Rattle.std.proofs.{lemmas.Bool.Decides.nat_tests, lemmas.List.FromFn.length-map-range_with_len, lemmas.List.FromFn.map-range_with_len_more}
-use Rattle.std.proofs.lemmas.List.{append_assoc, append-nil, length-map}
-use Rattle.std.proofs.lemmas.List.Splits.{slice_split_at, slice_split_none, length-slice_split}
+use Rattle.std.proofs.lemmas.{Bool.Decides.nat_tests, List.FromFn.length-map-range_with_len, List.FromFn.map-range_with_len_more}
+use Rattle.std.proofs.lemmas.List.{append_assoc, append-nil, length-map, Splits.slice_split_at, Splits.slice_split_none, Splits.length-slice_split}
 use Rattle.std.proofs.lemmas.List.Sums.{fold-append, AllPass-from_list_all, position_or_len_is, suffix_len_is}
 use Rattle.suite_gen.specs.Generated.{suite_text}
 use Rattle.suite_gen.specs.Generated as generated
 use Rattle.dep_record.specs.Fields.{is_printable, number_up_to, digits_up_to}
-use Rattle.suite_load.specs.declared.suite_line.SuiteLine.{SuiteLine}
-use Rattle.suite_load.specs.declared.suite_line.SuiteLine.TheVariants.{Header, Class, Test, End}
-use Rattle.suite_load.specs.declared.suite_text.TestLine.{TestLine}
-use Rattle.suite_load.specs.LineForms.{Row, rows, rows_of_pieces, cut}
-use Rattle.suite_load.specs.NameForms.{is_word_byte, is_identifier, is_test_name, is_depot_name, is_segment}
+use Rattle.suite_load.specs.declared.suite_line.SuiteLine.{SuiteLine, TheVariants.Header, TheVariants.Class, TheVariants.Test, TheVariants.End}
+use Rattle.suite_load.specs.{declared.suite_text.TestLine.TestLine, LineForms.Row, LineForms.rows, LineForms.rows_of_pieces, LineForms.cut}
 use Rattle.suite_load.specs.{NumberForms.clock_of, NumberForms.seed_of, Reading.◌>>=◌}
+use Rattle.suite_load.specs.NameForms.{is_word_byte, is_identifier, is_test_name, is_depot_name, is_segment}
 use Rattle.suite_load.specs.SuiteForm.{added, empty_suite, suite_from, test_names, is_in_order, is_ended, is_end, place_of, first_word, line_of, fresh, placed, one_field, class_line, class_name, stream_fields, stream_of, test_from, test_class, test_method, test_of, test_line, end_line, later_line, first_line, next_line, lines_from, whole, suite_of}
 use Rattle.generated_law.specs.GeneratedSuite.{test_name, method_name, said_test, class_file, said_suite}
 use Rattle.generated_law.specs.GeneratedLaw.{TextLaw}

@@ -4,13 +4,11 @@ use Rattle.std.specs.Int.{w16, w32, byte_at, to_be_bytes, cast_signed}
 use Rattle.std.proofs.lemmas.{Bool.lt-ltb, Bool.and_from, Int.to_z-of_z, List.length-append}
 use Rattle.class_pool.specs.declared.pool.Entry.TheVariants.{Utf8, Class}
 use Rattle.class_pool.specs.{Pool.entry_of, Pool.text_of, Pool.class_name_of, Grammar.IsBytes, Grammar.Sized}
-use Rattle.code_decode.specs.declared.decoding.Code.{Code}
+use Rattle.code_decode.specs.{declared.decoding.Code.Code, CodeGrammar.is_right, CodeGrammar.OpText, CodeGrammar.CodeText, Instructions.op}
 use Rattle.code_decode.specs.declared.opcodes.Named.TheVariants as named
-use Rattle.code_decode.specs.CodeGrammar.{is_right, OpText, CodeText}
-use Rattle.code_decode.specs.{Instructions.op, Judging.array_fit, Judging.named_fit, Opcodes.shape_of, Spelling.code_spelling}
+use Rattle.code_decode.specs.{Judging.array_fit, Judging.named_fit, Opcodes.shape_of, Spelling.code_spelling}
 use Rattle.class_reader.specs.ClassGrammar.{part_of, PartText}
-use Rattle.class_write.specs.declared.names.Names.{Names}
-use Rattle.class_write.specs.Spelling.{short_bytes, sized_bytes, run_bytes, part_bytes}
+use Rattle.class_write.specs.{declared.names.Names.Names, Spelling.short_bytes, Spelling.sized_bytes, Spelling.run_bytes, Spelling.part_bytes}
 use Rattle.suite_gen.specs.Generated.{group_of, group_count, field_entry, print_entry, setting, adding, printing, code_of}
 use Rattle.generated_law.proofs.Pool.{Slots, Holds}
 

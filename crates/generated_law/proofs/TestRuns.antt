@@ -4,16 +4,15 @@ use Rattle.std.specs.Prelude.{codes}
 use Rattle.std.specs.Int.{w32}
 use Rattle.std.proofs.lemmas.Int.{int_wrap_fits}
 use Rattle.et_base.specs.Numbers.{add32}
-use Rattle.jvm_model.specs.declared.{values.Value.Value, instr.Instr.Instr, outcome.Own.Own, outcome.Verdict.TheVariants.Passed}
+use Rattle.jvm_model.specs.declared.{values.Value.Value, instr.Instr.Instr, outcome.Own.Own, outcome.Verdict.TheVariants.Passed, program.Program.Program}
 use Rattle.jvm_model.specs.declared.values.Value.TheVariants as value
 use Rattle.jvm_model.specs.declared.values.Location.TheVariants as place
 use Rattle.jvm_model.specs.declared.instr.Instr.TheVariants as form
 use Rattle.jvm_model.specs.declared.instr.Op.TheVariants as op
-use Rattle.jvm_model.specs.declared.program.{Program.Program, Body.Body, Placed.Placed}
-use Rattle.jvm_model.specs.{World.World, World.at, World.put, World.has, State.State, State.Turn, State.test_at, State.started, Step.step}
+use Rattle.jvm_model.specs.{declared.program.Body.Body, declared.program.Placed.Placed, World.World, World.at, World.put, World.has}
+use Rattle.jvm_model.specs.{State.State, State.Turn, State.test_at, State.started, Step.step, Suite.End, Suite.finished, Suite.after_step, Suite.whole}
 use Rattle.jvm_model.specs.Access.{Access, Ran, done, write, spend, bind, run, read_of, write_of}
 use Rattle.jvm_model.specs.Classes.{field_at, method_at, found_of, form_at, next_place, is_static, is_trivial}
-use Rattle.jvm_model.specs.Suite.{End, finished, after_step, whole}
 use Rattle.generated_law.specs.GeneratedSuite.{print_number, body_with, setting_body, printing_body, adding_body}
 use Rattle.generated_law.specs.GeneratedRun.{line_of}
 use Rattle.generated_law.proofs.TestSteps.{inside, behind, StandsAt, Prints, with_line, const_step, get_step, put_step, add_step, print_step, return_step, first_step, last_step}

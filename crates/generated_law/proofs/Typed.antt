@@ -7,8 +7,7 @@ use Rattle.jvm_model.specs.declared.program.{Program.Program, ClassRec.ClassRec,
 use Rattle.jvm_model.specs.{Library.builtin_defs, Library.builtin_classes, Library.builtin_methods, Classes.no_method, Classes.field_at, Classes.method_at}
 use Rattle.jvm_model.specs.Descriptors.{parameters, return_type}
 use Rattle.jvm_model.proofs.BuiltinRules.{lengths, builtin_method}
-use Rattle.type_frames.specs.{Frames.index_of, StackEffect.sides, Rules.broken}
-use Rattle.type_frames.specs.Given.{entry_types, body_frames, given_frames}
+use Rattle.type_frames.specs.{Frames.index_of, StackEffect.sides, Rules.broken, Given.entry_types, Given.body_frames, Given.given_frames}
 use Rattle.type_frames.specs.Environment.{environment_of, given_at, is_target}
 use Rattle.type_frames.specs.Typing.{incoming, breach_at, unsupported_field, unsupported_method, or_later, fields_fault, members_fault, code_fault, body_fault, method_fault, methods_fault, class_fault, classes_fault, check_fault}
 use Rattle.suite_gen.specs.Generated.{group_of, group_count}

@@ -2,20 +2,16 @@
 use Rattle.std.proofs.Common.{◌≡◌, ◌⊎◌, inl, inr, ℕ, zero, suc, ◌+◌, ◌*◌, ◌%◌, ◌<◌, ◌≤◌, Bool, true, false, cond, nat_eq, unwrap_or, List, [], ◌∷◌, ◌++◌, length, map, flat_map, decimal, Option, Some, None, is_none, refl, sym, ap, subst, ◌∙◌, arith}
 use Rattle.std.specs.Prelude.{codes, option_map}
 use Rattle.std.specs.List.{AllByRecursion, list_all, range_with_len}
-use Rattle.std.proofs.Math.Nat.{mod-eq_of_lt}
-use Rattle.std.proofs.lemmas.Bool.{and_from, eqb-true}
+use Rattle.std.proofs.{Math.Nat.mod-eq_of_lt, lemmas.Bool.and_from, lemmas.Bool.eqb-true}
 use Rattle.et_base.proofs.Cases.{by_test}
-use Rattle.class_pool.specs.declared.pool.{Entry.Entry, Entry.TheVariants.Method}
-use Rattle.class_pool.specs.Pool.{entry_of, text_of, class_name_of}
+use Rattle.class_pool.specs.{declared.pool.Entry.Entry, declared.pool.Entry.TheVariants.Method, Pool.entry_of, Pool.text_of, Pool.class_name_of}
 use Rattle.class_reader.specs.declared.parts.{ClassParts.ClassParts, MemberPart.MemberPart}
 use Rattle.jvm_model.specs.declared.values.Kind.TheVariants as kind
-use Rattle.jvm_model.specs.declared.program.FieldRec.{FieldRec}
-use Rattle.jvm_model.specs.Library.{builtin_defs, builtin_classes, builtin_methods}
-use Rattle.jvm_model.specs.{Classes.is_static, Lookup.find_field, Lookup.find_method}
-use Rattle.code_forms.specs.declared.references.{Use.Use, Target.Target}
+use Rattle.jvm_model.specs.{declared.program.FieldRec.FieldRec, Library.builtin_defs, Library.builtin_classes, Library.builtin_methods, Classes.is_static}
+use Rattle.jvm_model.specs.Lookup.{find_field, find_method}
+use Rattle.code_forms.specs.{declared.references.Use.Use, declared.references.Target.Target, Uses.use_of, Uses.fits}
 use Rattle.code_forms.specs.declared.references.Use.TheVariants as used
 use Rattle.code_forms.specs.declared.references.Target.TheVariants as target
-use Rattle.code_forms.specs.Uses.{use_of, fits}
 use Rattle.class_link.specs.ClassNames.{text_at, name_at, needed_class, missing, kind_of}
 use Rattle.class_link.specs.declared.link_environment.LinkEnvironment.{LinkEnvironment}
 use Rattle.class_link.specs.References.{pair_of, field_target, method_target, target_of, missing_for, code_uses, uses}

@@ -1,7 +1,6 @@
 -- What the tests of a generated suite give when they are run in order (this project's).
 use Rattle.std.specs.Prelude.{◌≡◌, ◌≤◌, ℕ, ◌+◌, ◌-◌, ◌*◌, ◌%◌, List, [], ◌∷◌, ◌++◌, length, decimal, true, Some, ◌==◌, if◌then◌else◌}
-use Rattle.jvm_model.specs.declared.outcome.{Outcome.Outcome, Verdict.TheVariants.Passed}
-use Rattle.jvm_model.specs.Suite.{seq, is_detected}
+use Rattle.jvm_model.specs.{declared.outcome.Outcome.Outcome, declared.outcome.Verdict.TheVariants.Passed, Suite.seq, Suite.is_detected}
 use Rattle.generated_law.specs.GeneratedSuite.{generated_program}
 
 -- the value of a group's static before a test of it that isn't the first: the first one's number, and in the end that and

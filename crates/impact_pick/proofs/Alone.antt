@@ -4,14 +4,13 @@ use Rattle.std.specs.List.{list_any, list_all}
 use Rattle.std.proofs.lemmas.Bool.{and_parts, or_left, or_right, eqb-true, not-true}
 use Rattle.std.proofs.Math.ListN.{get_or-map}
 use Rattle.et_base.proofs.Cases.{implied}
-use Rattle.jvm_model.specs.declared.{values.Value.Value, values.Value.TheVariants.Lit, values.Location.Location, instr.Instr.Instr}
+use Rattle.jvm_model.specs.declared.{values.Value.Value, values.Value.TheVariants.Lit, values.Location.Location, instr.Instr.Instr, program.Program.Program}
 use Rattle.jvm_model.specs.declared.values.Location.TheVariants as place
 use Rattle.jvm_model.specs.declared.instr.Instr.TheVariants as form
-use Rattle.jvm_model.specs.declared.program.{Program.Program, ClassRec.ClassRec, FieldRec.FieldRec, MethodRec.MethodRec, Body.Body, Placed.Placed}
+use Rattle.jvm_model.specs.declared.program.{ClassRec.ClassRec, FieldRec.FieldRec, MethodRec.MethodRec, Body.Body, Placed.Placed}
 use Rattle.jvm_model.specs.{World.World, World.at, World.same, Library.builtin_classes, Library.builtin_fields, Library.builtin_defs}
-use Rattle.jvm_model.specs.{Builtin.out_field, Builtin.system_class, Linked.Linked, State.test_at}
+use Rattle.jvm_model.specs.{Builtin.out_field, Builtin.system_class, Linked.Linked, State.test_at, Suite.opening, Suite.Given, Suite.one_test}
 use Rattle.jvm_model.specs.Classes.{class_at, method_at, no_field, no_method, found_in, found_of, place_after, Found, form_at}
-use Rattle.jvm_model.specs.Suite.{opening, Given, one_test}
 use Rattle.jvm_model.proofs.BuiltinRules.{builtin_class, builtin_field}
 use Rattle.check_sound.specs.PaceLaw.{IsPut}
 use Rattle.check_sound.proofs.PacedTest.{test_statics}

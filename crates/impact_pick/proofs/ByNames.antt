@@ -3,9 +3,7 @@ use Rattle.std.proofs.Common.{◌≡◌, ◌⊎◌, ℕ, zero, suc, ◌<◌, ◌
 use Rattle.std.specs.Str.{bytes_eq}
 use Rattle.std.proofs.lemmas.Bool.{and_parts, and_from, or_cases, or_left, or_right, eqb-true, eq-eqb, ltb-true, lt-ltb, leb-true, le-leb}
 use Rattle.et_base.proofs.Texts.{units_true, units_same}
-use Rattle.jvm_model.specs.declared.program.Program.{Program}
-use Rattle.jvm_model.specs.{Builtin.builtin_count, Linked.IsDistinct}
-use Rattle.jvm_model.specs.Classes.{field_at, method_at, literal_at}
+use Rattle.jvm_model.specs.{declared.program.Program.Program, Builtin.builtin_count, Linked.IsDistinct, Classes.field_at, Classes.method_at, Classes.literal_at}
 use Rattle.order_law.specs.{Pairing.OneToOne, Numbers.Numbers, Numbers.Tested}
 use Rattle.impact_pick.specs.ByName.{same_class, by_name}
 

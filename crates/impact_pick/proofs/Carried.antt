@@ -10,8 +10,7 @@ use Rattle.order_law.specs.{Conflicts.down, Exposed.exposed, Matched.Matched, Ou
 use Rattle.order_law.specs.Histories.{after_history, given_after, touches_of, IsTestNumber}
 use Rattle.order_law.specs.Pairing.{PairedValue, PairedLocation, statics, inits, heads, at_field, at_elem, texts, files, props, PairedContent}
 use Rattle.order_law.specs.Numbers.{Numbers, Tested, with_places}
-use Rattle.order_law.proofs.{FrameLaw.ran_as, PlainRows.constant-paired}
-use Rattle.order_law.proofs.Histories.{InSuite, in_suite, world_as}
+use Rattle.order_law.proofs.{FrameLaw.ran_as, PlainRows.constant-paired, Histories.InSuite, Histories.in_suite, Histories.world_as}
 use Rattle.impact_pick.specs.Carried.{IsCarried, GivesSame, CarriedLaw}
 use Rattle.impact_pick.proofs.Worlds.{AlikeWorlds, itself, itself_is, stays_alike}
 use Rattle.impact_pick.proofs.Alone.{out_stays, settled_reads, settled_puts, gives_alone}

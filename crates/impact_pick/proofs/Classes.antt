@@ -5,8 +5,7 @@ use Rattle.std.specs.List.{list_all}
 use Rattle.std.proofs.lemmas.Bool.{and_parts, ltb-true}
 use Rattle.class_reader.specs.declared.parts.{ClassParts.ClassParts, MemberPart.MemberPart, CodePart.CodePart}
 use Rattle.jvm_model.specs.declared.program.{Program.Program, ClassRec.ClassRec, FieldRec.FieldRec, MethodRec.MethodRec, Body.Body, TestEntry.TestEntry}
-use Rattle.jvm_model.specs.{Builtin.builtin_count, Linked.IsDistinct}
-use Rattle.jvm_model.specs.Library.{builtin_classes, builtin_methods, builtin_defs}
+use Rattle.jvm_model.specs.{Builtin.builtin_count, Linked.IsDistinct, Library.builtin_classes, Library.builtin_methods, Library.builtin_defs}
 use Rattle.jvm_model.specs.Classes.{class_at, field_at, method_at, literal_at, no_class, no_method}
 use Rattle.jvm_model.proofs.BuiltinRules.{lengths, all_at, enough_fields, enough_methods, builtin_class, builtin_field, builtin_method}
 use Rattle.class_link.specs.{ClassNames.name_at, ClassNames.all_names, ClassNames.number_or_first, Literals.literals}

@@ -4,8 +4,7 @@ use Rattle.std.proofs.lemmas.Bool.{leb-true, leb-false}
 use Rattle.code_decode.specs.declared.instructions.RawOp.{RawOp}
 use Rattle.jvm_model.specs.declared.{values.Value.TheVariants.Int, values.Value.TheVariants.Long, values.Value.TheVariants.Null, instr.Instr.Instr}
 use Rattle.jvm_model.specs.declared.instr.Instr.TheVariants as form
-use Rattle.code_forms.specs.declared.references.Target.{Target}
-use Rattle.code_forms.specs.Operands.{operand, number_in}
+use Rattle.code_forms.specs.{declared.references.Target.Target, Operands.operand, Operands.number_in}
 use Rattle.code_forms.specs.Forms.{constant_form, constants, loads, stores, moves, numbers, conversions, branches, members, number_array, types, others, form_of}
 use Rattle.code_forms.proofs.FormCases.{IsTyped, is_plain}
 

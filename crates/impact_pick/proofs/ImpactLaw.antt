@@ -8,10 +8,9 @@ use Rattle.class_reader.specs.ClassGrammar as grammar
 use Rattle.jvm_model.specs.declared.program.{Program.Program, ClassRec.ClassRec, TestEntry.TestEntry, Body.Body}
 use Rattle.jvm_model.specs.{Builtin.builtin_count, Classes.class_at, Classes.member, State.test_at, State.no_test, Suite.is_detected}
 use Rattle.jvm_model.specs.Linked.{Linked, IsDistinct, IsClass}
-use Rattle.class_link.specs.declared.{fault.LinkFault.LinkFault, lines.TestLines.TestLines}
-use Rattle.class_link.specs.{ClassNames.all_names, Bodies.linked_body}
-use Rattle.class_link.specs.Assembly.{mentions, given_classes, assembled, skeleton, bare_body}
+use Rattle.class_link.specs.{declared.fault.LinkFault.LinkFault, declared.lines.TestLines.TestLines, ClassNames.all_names, Bodies.linked_body}
 use Rattle.class_link.specs.Faults.{first_some, duplicate_fault, supertypes_fault, all_references_fault}
+use Rattle.class_link.specs.Assembly.{mentions, given_classes, assembled, skeleton, bare_body}
 use Rattle.class_link.specs.Link.{setting, unless, cycle_fault, tests_of, program_of, link_by, Links, AreLines}
 use Rattle.class_link.proofs.{Assembled.class_count, Assembled.class_given, Blocks.at_place, Distinct.is_distinct, Listed.AllKnown}
 use Rattle.class_link.proofs.LinkLaw.{bound, unless_none, known_from, coded_from, links_linked}
@@ -21,8 +20,7 @@ use Rattle.order_law.proofs.Members.{true_member}
 use Rattle.impact_pick.specs.{Carried.PairedEntry, Carried.IsCarried, Pick.is_changed, Pick.is_picked}
 use Rattle.impact_pick.specs.{Unpicked.is_kept, Unpicked.lines_of, Unpicked.KeptClasses, ImpactLaw.HasSums, ImpactLaw.SumsTell, ImpactLaw.ImpactLaw}
 use Rattle.impact_pick.proofs.{Unpicked.not_false, Unpicked.kept_law, Unpicked.unpicked_law, Resolved.supers_there, Resolved.pools_name, Resolved.code_there}
-use Rattle.impact_pick.proofs.{Names.AreKept, Records.n, Starts.skeletons_match, Starts.matched}
-use Rattle.impact_pick.proofs.Lines.{line_test, tests_long, line_carried}
+use Rattle.impact_pick.proofs.{Names.AreKept, Records.n, Starts.skeletons_match, Starts.matched, Lines.line_test, Lines.tests_long, Lines.line_carried}
 
 -- ---- an answer's parts
 

@@ -2,18 +2,15 @@
 use Rattle.std.proofs.Common.{◌≡◌, ℕ, suc, ◌+◌, ◌≤◌, min, List, [], ◌∷◌, map, slice_get, Bool, true, false, cond, eqb, nat_eq, refl, sym, ap, subst, arith, Option, Some, None}
 use Rattle.std.specs.Prelude.{option_map, is_some, unwrap_or}
 use Rattle.std.proofs.lemmas.Bool.Decides.{nat_tests}
-use Rattle.class_pool.specs.declared.pool.Entry.{Entry}
+use Rattle.class_pool.specs.{declared.pool.Entry.Entry, Pool.entry_of}
 use Rattle.class_pool.specs.declared.pool.Entry.TheVariants as entry
-use Rattle.class_pool.specs.Pool.{entry_of}
 use Rattle.code_decode.specs.declared.instructions.RawOp.{RawOp}
 use Rattle.class_reader.specs.declared.parts.{ClassParts.ClassParts, CodePart.CodePart, RawHandler.RawHandler}
 use Rattle.jvm_model.specs.declared.{values.Kind.Kind, values.Value.TheVariants.Lit, values.Value.TheVariants.Obj, instr.Instr.Instr}
 use Rattle.jvm_model.specs.declared.instr.Instr.TheVariants as form
-use Rattle.jvm_model.specs.{Builtin.builtin_count, Linked.IsDistinct, Selection.named_class}
-use Rattle.jvm_model.specs.Lookup.{find_field, find_method, lacks_method}
-use Rattle.code_forms.specs.declared.references.Target.{Target}
+use Rattle.jvm_model.specs.{Builtin.builtin_count, Linked.IsDistinct, Selection.named_class, Lookup.find_field, Lookup.find_method, Lookup.lacks_method}
+use Rattle.code_forms.specs.{declared.references.Target.Target, Operands.index_in, Operands.number_in, Uses.use_of}
 use Rattle.code_forms.specs.declared.references.Target.TheVariants as target
-use Rattle.code_forms.specs.{Operands.index_in, Operands.number_in, Uses.use_of}
 use Rattle.code_forms.specs.Forms.{constant_form, branches, field_form, method_form, members, array_of, number_array, type_form, types, form_of}
 use Rattle.code_forms.proofs.FormCases.{is_plain, IsTyped, loads_plain, stores_plain, moves_plain, numbers_plain, conversions_plain}
 use Rattle.class_link.specs.declared.link_environment.LinkEnvironment.{LinkEnvironment}

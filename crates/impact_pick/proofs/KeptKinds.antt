@@ -4,10 +4,9 @@ use Rattle.std.specs.Prelude.{option_map}
 use Rattle.code_decode.specs.Judging.{dimensions}
 use Rattle.class_reader.specs.declared.parts.ClassParts.{ClassParts}
 use Rattle.et_base.specs.Names.{starts_array}
-use Rattle.jvm_model.specs.declared.values.{Base.Base, Kind.Kind}
+use Rattle.jvm_model.specs.{declared.values.Base.Base, declared.values.Kind.Kind, Linked.IsDistinct}
 use Rattle.jvm_model.specs.declared.values.Base.TheVariants as base
 use Rattle.jvm_model.specs.declared.values.Kind.TheVariants as kind
-use Rattle.jvm_model.specs.Linked.{IsDistinct}
 use Rattle.class_link.specs.ClassNames.{all_names, class_number, needed_class, within_type, element_class, base_of, array_kind, kind_of}
 use Rattle.class_link.specs.Assembly.{skeleton}
 use Rattle.order_law.specs.Pairing.{PairedBase, booleans, bytes, chars, shorts, int_bases, long_bases, class_bases, PairedKind, class_kinds, array_kinds}

@@ -3,8 +3,7 @@ use Rattle.std.proofs.Common.{◌≡◌, ℕ, zero, suc, ◌+◌, List, [], ◌�
 use Rattle.std.specs.Prelude.{option_and_then}
 use Rattle.std.proofs.lemmas.{Bool.cond_both, List.length_push}
 use Rattle.class_reader.specs.declared.parts.ClassParts.{ClassParts}
-use Rattle.jvm_model.specs.declared.program.TestEntry.{TestEntry}
-use Rattle.jvm_model.specs.Linked.{IsDistinct, test_method}
+use Rattle.jvm_model.specs.{declared.program.TestEntry.TestEntry, Linked.IsDistinct, Linked.test_method}
 use Rattle.class_link.specs.declared.{fault.LinkFault.LinkFault, lines.TestLine.TestLine, link_environment.LinkEnvironment.LinkEnvironment}
 use Rattle.class_link.specs.declared.fault.LinkFault.TheVariants as fault
 use Rattle.class_link.specs.{ClassNames.all_names, ClassNames.class_number, Assembly.skeleton, Link.setting, Link.tests_of}

@@ -3,21 +3,18 @@ use Rattle.std.proofs.Common.{◌≡◌, ◌⊎◌, ℕ, zero, suc, ◌+◌, ◌
 use Rattle.std.specs.Prelude.{flat_map, option_and_then}
 use Rattle.std.specs.{Option.option_to_list, List.range_with_len, List.position_or_len, Str.bytes_eq}
 use Rattle.std.proofs.lemmas.Bool.{eqb-true, eqb-false, cases_lt, cases_Bool, eq-eqb, or_left, or_right, lt-ltb, false_from_ne_true}
-use Rattle.std.proofs.lemmas.List.{get_or_append_left, get_or-append-add, length-append, length-map}
-use Rattle.std.proofs.{lemmas.List.Folds.list_any_at, lemmas.List.Sums.position_or_len_is}
+use Rattle.std.proofs.lemmas.List.{get_or_append_left, get_or-append-add, length-append, length-map, Folds.list_any_at, Sums.position_or_len_is}
 use Rattle.std.proofs.lemmas.Option.{slice_get_within, get_or_from_slice_get}
 use Rattle.et_base.proofs.Texts.{units_true, units_same}
-use Rattle.class_pool.specs.declared.pool.Entry.{Entry}
+use Rattle.class_pool.specs.{declared.pool.Entry.Entry, Pool.entry_of}
 use Rattle.class_pool.specs.declared.pool.Entry.TheVariants as entry
-use Rattle.class_pool.specs.Pool.{entry_of}
 use Rattle.class_reader.specs.declared.parts.ClassParts.{ClassParts}
 use Rattle.jvm_model.specs.declared.program.ClassRec.{ClassRec}
 use Rattle.jvm_model.specs.{Builtin.builtin_count, Library.builtin_classes, Classes.class_at, Classes.member, Linked.IsClass, Linked.IsDistinct}
 use Rattle.jvm_model.proofs.{BuiltinRules.lengths, Interfaces.member-flat_map}
 use Rattle.class_link.specs.ClassNames.{text_at, own_name, all_names, class_number, needed_class}
 use Rattle.class_link.specs.Assembly.{mentioned_by, given_classes, mentions, skeleton, bare_body}
-use Rattle.class_link.proofs.{Blocks.at_place, Pools.standing}
-use Rattle.class_link.proofs.Numbered.{number_found, names_length, name_of_class}
+use Rattle.class_link.proofs.{Blocks.at_place, Pools.standing, Numbered.number_found, Numbered.names_length, Numbered.name_of_class}
 
 -- ---- numbers of names
 

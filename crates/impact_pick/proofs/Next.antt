@@ -4,8 +4,7 @@ use Rattle.std.specs.List.{list_any, range_with_len}
 use Rattle.std.proofs.{lemmas.List.Elements.filter-append, lemmas.List.Folds.list_any-append}
 use Rattle.et_base.proofs.Ranges.{range_suc}
 use Rattle.jvm_model.specs.declared.program.Program.{Program}
-use Rattle.order_law.specs.declared.records.{Prints.Prints, More.More, Reach.Reach}
-use Rattle.order_law.specs.Reach.{puts_out_somewhere}
+use Rattle.order_law.specs.{declared.records.Prints.Prints, declared.records.More.More, declared.records.Reach.Reach, Reach.puts_out_somewhere}
 use Rattle.impact_pick.specs.Pick.{is_changed, is_hit, is_open, is_after_hit, is_picked, reach_at, no_reach}
 
 or_none : (b c : Bool) → (b || (c || false)) ≡ (b || c)

@@ -4,9 +4,8 @@ use Rattle.std.specs.List.{list_all, range_with_len}
 use Rattle.std.proofs.lemmas.Bool.{ltb-true}
 use Rattle.class_pool.specs.declared.pool.Entry.{Entry}
 use Rattle.class_reader.specs.declared.parts.{ClassParts.ClassParts, MemberPart.MemberPart}
-use Rattle.jvm_model.specs.declared.program.{Program.Program, FieldRec.FieldRec, MethodRec.MethodRec}
-use Rattle.jvm_model.specs.{Builtin.builtin_count, Linked.IsDistinct, Linked.HoldsBuiltins}
-use Rattle.jvm_model.specs.Library.{builtin_fields, builtin_methods, builtin_defs}
+use Rattle.jvm_model.specs.{declared.program.Program.Program, declared.program.FieldRec.FieldRec, declared.program.MethodRec.MethodRec, Builtin.builtin_count}
+use Rattle.jvm_model.specs.{Linked.IsDistinct, Linked.HoldsBuiltins, Library.builtin_fields, Library.builtin_methods, Library.builtin_defs}
 use Rattle.jvm_model.specs.Classes.{field_at, method_at, no_field, no_method}
 use Rattle.jvm_model.proofs.BuiltinRules.{lengths, all_at, enough_fields, enough_methods, builtin_field, builtin_method}
 use Rattle.class_link.specs.Literals.{literals}

@@ -2,12 +2,10 @@
 use Rattle.std.proofs.Common.{◌≡◌, ℕ, ◌+◌, ◌-◌, ◌<◌, ◌≤◌, ◌^◌, ℤ, pos, List, [], ◌∷◌, slice_get, get_or, Bool, true, false, not, ◌&&◌, ◌||◌, cond, leb, nat_eq, nat_le, refl, sym, ◌∙◌, ap, subst, inl, inr, arith, Option, Some, None}
 use Rattle.std.specs.Prelude.{option_and_then, option_map, unwrap_or, is_some, is_none, drop}
 use Rattle.std.proofs.lemmas.Bool.{and_parts, or_left, or_right, not-true, cond-true, eq-eqb, le-leb, agree_below, agree_below_at}
-use Rattle.std.proofs.{lemmas.Bool.Decides.nat_tests, lemmas.List.Folds.list_any_at}
-use Rattle.std.proofs.lemmas.Option.{slice_get_within, get_or_from_slice_get}
+use Rattle.std.proofs.lemmas.{Bool.Decides.nat_tests, List.Folds.list_any_at, Option.slice_get_within, Option.get_or_from_slice_get}
 use Rattle.et_base.specs.Names.{starts_array}
-use Rattle.class_pool.specs.declared.pool.Entry.{Entry}
+use Rattle.class_pool.specs.{declared.pool.Entry.Entry, Pool.entry_of, Pool.class_name_of}
 use Rattle.class_pool.specs.declared.pool.Entry.TheVariants as entry
-use Rattle.class_pool.specs.Pool.{entry_of, class_name_of}
 use Rattle.class_pool.proofs.EntryFacts.{NamesClass}
 use Rattle.code_decode.specs.declared.{instructions.RawOp.RawOp, opcodes.Shape.Shape, opcodes.Named.Named}
 use Rattle.code_decode.specs.declared.opcodes.Shape.TheVariants as shape
@@ -18,14 +16,12 @@ use Rattle.code_decode.specs.{Judging.named_fit, Judging.dimensions, Opcodes.sha
 use Rattle.code_decode.proofs.{ArgFacts.OneNumber, ArgFacts.IndexCount, ArgFacts.CallsInterface, ArgFacts.MakesArrays, CodeFacts.PlainFacts, CodeFacts.OpFacts}
 use Rattle.class_reader.specs.declared.parts.{ClassParts.ClassParts, MemberPart.MemberPart, CodePart.CodePart, RawHandler.RawHandler}
 use Rattle.class_reader.proofs.PartFacts.{HandlerFacts, PartFacts}
-use Rattle.jvm_model.specs.declared.values.Kind.{Kind}
+use Rattle.jvm_model.specs.{declared.values.Kind.Kind, Builtin.builtin_count, Classes.member, Linked.IsDistinct}
 use Rattle.jvm_model.specs.declared.values.Kind.TheVariants as kind
-use Rattle.jvm_model.specs.{Builtin.builtin_count, Classes.member, Linked.IsDistinct}
 use Rattle.jvm_model.proofs.Ranges.{all_there}
-use Rattle.code_forms.specs.declared.references.{Use.Use, Target.Target}
+use Rattle.code_forms.specs.{declared.references.Use.Use, declared.references.Target.Target, Operands.index_in, Uses.use_of, Uses.fits}
 use Rattle.code_forms.specs.declared.references.Use.TheVariants as used
 use Rattle.code_forms.specs.declared.references.Target.TheVariants as target
-use Rattle.code_forms.specs.{Operands.index_in, Uses.use_of, Uses.fits}
 use Rattle.code_forms.proofs.{FormCases.is_untyped, FormCases.IsTyped, ShapeFacts.not_wide, ShapeFacts.args_of, ShapeFacts.first_index}
 use Rattle.class_link.specs.ClassNames.{text_at, name_at, all_names, class_number, needed_class, missing, base_of, kind_of, element_class}
 use Rattle.class_link.specs.{Assembly.skeleton, References.target_of, Link.setting}

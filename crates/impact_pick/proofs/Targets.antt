@@ -1,20 +1,17 @@
 -- What a kept class's pool entries stand for is paired, where it is something in the first list.
 use Rattle.std.proofs.Common.{◌≡◌, ℕ, ◌+◌, List, [], slice_get, Bool, true, cond, refl, sym, ◌∙◌, ap, subst, Option, Some, None}
 use Rattle.std.specs.Prelude.{option_map, unwrap_or}
-use Rattle.class_pool.specs.declared.pool.Entry.{Entry}
+use Rattle.class_pool.specs.{declared.pool.Entry.Entry, Pool.entry_of, Pool.class_name_of}
 use Rattle.class_pool.specs.declared.pool.Entry.TheVariants as entry
-use Rattle.class_pool.specs.Pool.{entry_of, class_name_of}
 use Rattle.class_reader.specs.declared.parts.{ClassParts.ClassParts, MemberPart.MemberPart, CodePart.CodePart}
 use Rattle.jvm_model.specs.declared.values.{Kind.Kind, Value.Value, Value.TheVariants.Int, Value.TheVariants.Long, Value.TheVariants.Lit}
-use Rattle.jvm_model.specs.{Builtin.builtin_count, Linked.IsDistinct, Selection.named_class}
-use Rattle.jvm_model.specs.Lookup.{find_field, find_method, lacks_method}
+use Rattle.jvm_model.specs.{Builtin.builtin_count, Linked.IsDistinct, Selection.named_class, Lookup.find_field, Lookup.find_method, Lookup.lacks_method}
 use Rattle.dep_record.proofs.FieldLaws.{none_chosen, some_mapped}
 use Rattle.code_forms.specs.declared.references.Target.{Target}
 use Rattle.code_forms.specs.declared.references.Target.TheVariants as target
-use Rattle.class_link.specs.declared.link_environment.LinkEnvironment.{LinkEnvironment}
+use Rattle.class_link.specs.{declared.link_environment.LinkEnvironment.LinkEnvironment, Literals.literals, Literals.literal_number}
 use Rattle.class_link.specs.ClassNames.{text_at, name_at, all_names, needed_class, kind_of}
-use Rattle.class_link.specs.{Literals.literals, Literals.literal_number, Assembly.skeleton, Assembly.bare_body}
-use Rattle.class_link.specs.References.{pair_of, field_target, method_target, target_of}
+use Rattle.class_link.specs.{Assembly.skeleton, Assembly.bare_body, References.pair_of, References.field_target, References.method_target, References.target_of}
 use Rattle.order_law.specs.Pairing.{no_more, PairedOption, both_none, both_some, PairedKind}
 use Rattle.order_law.specs.{Numbers.Numbers, Numbers.Tested, Matched.PairedBody, Matched.MatchedCode}
 use Rattle.order_law.specs.Forms.{PairedConstant, const_int, const_long, const_literal}

@@ -3,8 +3,7 @@ use Rattle.std.proofs.Common.{◌≡◌, ℕ, zero, suc, ◌+◌, ◌-◌, ◌<�
 use Rattle.std.specs.Prelude.{option_map, IsSome, is_some, codes, decimal, ◌++◌}
 use Rattle.std.specs.List.{list_any, range_with_len}
 use Rattle.std.proofs.lemmas.Bool.{cases_Bool, cases_lt, and_parts, and_from, or_cases, or_parts, not-true, not_from_false, leb-true, le-leb}
-use Rattle.std.proofs.{lemmas.Map.Keys.any_passes_from_place, Math.ListN.get_or-map}
-use Rattle.std.proofs.lemmas.Option.{slice_get-get_or}
+use Rattle.std.proofs.{lemmas.Map.Keys.any_passes_from_place, Math.ListN.get_or-map, lemmas.Option.slice_get-get_or}
 use Rattle.et_base.specs.Quotes.{name_of}
 use Rattle.jvm_model.specs.declared.{outcome.Cause.Cause, outcome.Outcome.Outcome, outcome.Verdict.Verdict, program.ClassRec.ClassRec, program.Program.Program}
 use Rattle.jvm_model.specs.{Builtin.builtin_count, Classes.class_at, Classes.no_class, State.test_at, State.no_test}

@@ -1,11 +1,8 @@
 -- What changed class files leave as it was: the law (this project's).
 use Rattle.std.specs.Prelude.{◌≡◌, ℕ, ◌≤◌, List, length, slice_get, All, true, false, Some, Ok, IsSome}
-use Rattle.class_reader.specs.declared.parts.ClassParts.{ClassParts}
-use Rattle.class_reader.specs.ClassGrammar.{IsClass}
-use Rattle.class_link.specs.declared.lines.TestLines.{TestLines}
-use Rattle.class_link.specs.Link.{Links, AreLines}
-use Rattle.jvm_model.specs.declared.program.Program.{Program}
-use Rattle.jvm_model.specs.Suite.{is_detected}
+use Rattle.class_reader.specs.{declared.parts.ClassParts.ClassParts, ClassGrammar.IsClass}
+use Rattle.class_link.specs.{declared.lines.TestLines.TestLines, Link.Links, Link.AreLines}
+use Rattle.jvm_model.specs.{declared.program.Program.Program, Suite.is_detected}
 use Rattle.order_law.specs.declared.records.{Prints.Prints, Record.Record, More.More}
 use Rattle.order_law.specs.{Histories.IsTestNumber, Reach.IsRecordOf}
 use Rattle.impact_pick.specs.{Pick.is_picked, Unpicked.lines_of}

@@ -2,9 +2,8 @@
 use Rattle.std.specs.Prelude.{◌≡◌, ℕ, ◌-◌, List, length, map, Bool, true, false, not, ◌&&◌, nat_le, Option, Some, option_map, IsSome}
 use Rattle.std.specs.List.{list_any}
 use Rattle.et_base.specs.Quotes.{name_of}
-use Rattle.jvm_model.specs.declared.program.{Names.Names, Program.Program}
-use Rattle.jvm_model.specs.{Builtin.builtin_count, Classes.class_at, Classes.member, Linked.Linked, Linked.IsGiven, State.test_at}
-use Rattle.jvm_model.specs.{Suite.seq, Suite.is_detected, Texts.outcome_lines}
+use Rattle.jvm_model.specs.{declared.program.Names.Names, declared.program.Program.Program, Builtin.builtin_count, Classes.class_at, Classes.member}
+use Rattle.jvm_model.specs.{Linked.Linked, Linked.IsGiven, State.test_at, Suite.seq, Suite.is_detected, Texts.outcome_lines}
 use Rattle.order_law.specs.{Conflicts.Member, Histories.IsTestNumber, Matched.Matched, Numbers.Numbers, Reach.IsRecordOf}
 use Rattle.order_law.specs.declared.records.{Prints.Prints, Record.Record, Reach.Reach, More.More}
 use Rattle.impact_pick.specs.{Carried.IsCarried, Pick.is_changed, Pick.is_picked}

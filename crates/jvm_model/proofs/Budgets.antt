@@ -1,8 +1,7 @@
 -- A test gives the same under every budget that its units keep to, and nothing under a smaller one.
 use Rattle.std.proofs.Common.{◌≡◌, ℕ, zero, suc, ◌+◌, ◌<◌, ◌≤◌, List, Bool, true, false, ◌&&◌, nat_le, ◌++◌, refl, sym, ◌∙◌, ap, subst, inl, inr, arith, Some, None}
 use Rattle.std.proofs.lemmas.Bool.{cases_Bool, leb-true}
-use Rattle.jvm_model.specs.declared.{values.Touch.Touch, program.Program.Program}
-use Rattle.jvm_model.specs.{World.World, Access.Ran, Access.run, Step.step}
+use Rattle.jvm_model.specs.{declared.values.Touch.Touch, declared.program.Program.Program, World.World, Access.Ran, Access.run, Step.step}
 use Rattle.jvm_model.specs.State.{State, Turn, next, ended, stuck_turn, started}
 use Rattle.jvm_model.specs.Suite.{End, finished, stuck, out_of_steps, after_step, whole, tree, Given, given_at, one_test}
 use Rattle.jvm_model.proofs.Binds.{run_bind}

@@ -1,11 +1,10 @@
 -- The built-in classes keep the rules of a linked program: tests over the whole tables, computed.
 use Rattle.std.proofs.Common.{◌≡◌, ℕ, List, [], ◌∷◌, ◌+◌, length, get_or, Bool, true, ◌&&◌, not, nat_eq, nat_lt, refl, Option, Some, None}
 use Rattle.std.specs.{List.list_all, List.list_any, Str.bytes_eq}
-use Rattle.jvm_model.specs.declared.program.{Program.Program, ClassRec.ClassRec, MethodRec.MethodRec}
-use Rattle.jvm_model.specs.{Builtin.builtin_count, Classes.no_class, Classes.no_field}
-use Rattle.jvm_model.specs.Library.{builtin_defs, builtin_classes, builtin_fields, builtin_methods}
-use Rattle.et_base.specs.Names.{is_class_name, is_unqualified, is_method_name, is_field_descriptor, is_method_descriptor, after_class, after_element, after_type, argument, arguments, argument_units}
+use Rattle.jvm_model.specs.{declared.program.Program.Program, declared.program.ClassRec.ClassRec, declared.program.MethodRec.MethodRec, Builtin.builtin_count}
+use Rattle.jvm_model.specs.{Classes.no_class, Classes.no_field, Library.builtin_defs, Library.builtin_classes, Library.builtin_fields, Library.builtin_methods}
 use Rattle.jvm_model.specs.Linked.{count, has_room, opens}
+use Rattle.et_base.specs.Names.{is_class_name, is_unqualified, is_method_name, is_field_descriptor, is_method_descriptor, after_class, after_element, after_type, argument, arguments, argument_units}
 
 -- the numbers of the tables' entries
 class_numbers : length builtin_classes ≡ builtin_count

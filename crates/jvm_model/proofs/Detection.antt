@@ -1,8 +1,7 @@
 -- A detection run is refused exactly where the suite in its own order doesn't end within the limit.
 use Rattle.std.proofs.Common.{◌≡◌, ℕ, ◌+◌, ◌-◌, ◌≤◌, min, List, [], ◌∷◌, true, refl, ◌∙◌, ap, arith, Option, Some, None}
 use Rattle.std.proofs.lemmas.Bool.{leb-true}
-use Rattle.jvm_model.specs.declared.program.Program.{Program}
-use Rattle.jvm_model.specs.{World.World, State.test_at}
+use Rattle.jvm_model.specs.{declared.program.Program.Program, World.World, State.test_at}
 use Rattle.jvm_model.specs.Suite.{opening, Given, one_test, with_first, runs_on, runs, all_tests, units_of, suite_limit, within_limit, is_detected, SuiteFault, fault_of, fault_on, suite_fault}
 use Rattle.jvm_model.proofs.{Budgets.one_test_within, Budgets.one_test_units, Runs.runs_after}
 

@@ -1,8 +1,7 @@
 -- A list of tests gives nothing exactly where one of its tests doesn't.
 use Rattle.std.proofs.Common.{◌≡◌, ℕ, List, [], ◌∷◌, Option, Some, None, refl, ◌∙◌}
 use Rattle.std.specs.Prelude.{is_some, is_none}
-use Rattle.jvm_model.specs.declared.program.Program.{Program}
-use Rattle.jvm_model.specs.{World.World, State.test_at}
+use Rattle.jvm_model.specs.{declared.program.Program.Program, World.World, State.test_at}
 use Rattle.jvm_model.specs.Suite.{one_test, with_first, runs, runs_on, opening, first_over, first_over_on}
 
 with_first_none : {A : Type 0} (x : A) (o : Option (List A)) → is_none (with_first x o) ≡ is_none o

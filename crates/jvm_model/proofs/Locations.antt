@@ -1,8 +1,7 @@
 -- The laws of the world: what is at a location after a write and after an object was made.
 use Rattle.std.proofs.Common.{◌≡◌, ◌≢◌, ◌⊎◌, ℕ, zero, suc, ◌≤◌, Bool, true, false, List, [], ◌∷◌, ◌++◌, length, get_or, set, refl, sym, ◌∙◌, ap, subst, inl, inr, arith, rules, eqb, nat_eq, Some, None, get_or-set_same}
 use Rattle.std.proofs.lemmas.Bool.{cases_eq, cases_Bool, eqb-true, eq-eqb, and_parts, and_from, ltb-true, false_from_ne_true}
-use Rattle.std.proofs.lemmas.{List.get_or_past, Grind.common_steps, Grind.elements}
-use Rattle.std.proofs.Math.Seq.{get_or-append_seam}
+use Rattle.std.proofs.{lemmas.List.get_or_past, lemmas.Grind.common_steps, lemmas.Grind.elements, Math.Seq.get_or-append_seam}
 use Rattle.jvm_model.specs.declared.values.{Value.TheVariants.Null, InitState.TheVariants.Idle, Location.Location}
 use Rattle.jvm_model.specs.declared.values.Location.TheVariants as place
 use Rattle.std.specs.Str.{bytes_eq}

@@ -1,9 +1,8 @@
 -- Instructions by their index in the code, where the places ascend.
 use Rattle.std.proofs.Common.{◌≡◌, ℕ, zero, suc, ◌+◌, ◌<◌, ◌≤◌, List, [], ◌∷◌, length, get_or, true, false, nat_eq, refl, sym, ◌∙◌, inl, inr, arith, Some}
 use Rattle.std.proofs.lemmas.Bool.{cases_Bool, eqb-true, eq-eqb, false_from_ne_true}
-use Rattle.jvm_model.specs.declared.program.{Placed.Placed, Program.Program, Body.Body}
+use Rattle.jvm_model.specs.{declared.program.Placed.Placed, declared.program.Program.Program, declared.program.Body.Body, Linked.Ascends, Linked.place_listed}
 use Rattle.jvm_model.specs.Classes.{place_after, found_in, found_of, method_at, form_at, next_place}
-use Rattle.jvm_model.specs.Linked.{Ascends, place_listed}
 
 -- the place of the instruction after the one at an index, or the code's end
 abbrev pub place_beyond : List Placed → ℕ → ℕ → ℕ

@@ -1,7 +1,6 @@
 -- A list of tests with one more at its end.
 use Rattle.std.proofs.Common.{◌≡◌, ℕ, List, [], ◌∷◌, ◌++◌, refl, sym, ◌∙◌, ap, Option, Some, None}
-use Rattle.jvm_model.specs.declared.program.Program.{Program}
-use Rattle.jvm_model.specs.{World.World, State.test_at}
+use Rattle.jvm_model.specs.{declared.program.Program.Program, World.World, State.test_at}
 use Rattle.jvm_model.specs.Suite.{opening, Given, one_test, with_first, runs_on, runs, last_in, outcome_in, last_outcome, world_after}
 
 abbrev pub with_last : List Given → Option Given → Option (List Given)

@@ -2,9 +2,8 @@
 use Rattle.std.proofs.Common.{◌≡◌, ℕ, List, Bool, true, false, ap, ◌∙◌, not, Some, None}
 use Rattle.jvm_model.specs.declared.values.{Value.Value, Touch.Touch}
 use Rattle.jvm_model.specs.declared.state.EntryKind.TheVariants.{Absent, InMethod, InClass}
-use Rattle.jvm_model.specs.declared.program.Program.{Program}
-use Rattle.jvm_model.specs.{World.World, Entries.Entries, Initialise.row_finish, Initialise.row_fail, Raising.row_raise, Working.Working, State.State}
-use Rattle.jvm_model.specs.{Access.Access, Access.spend, Access.bind, Rows.Answer, Rows.answer, Rows.stuck_row, Driver.drive}
+use Rattle.jvm_model.specs.{declared.program.Program.Program, World.World, Entries.Entries, Initialise.row_finish, Initialise.row_fail, Raising.row_raise}
+use Rattle.jvm_model.specs.{Working.Working, State.State, Access.Access, Access.spend, Access.bind, Rows.Answer, Rows.answer, Rows.stuck_row, Driver.drive}
 use Rattle.jvm_model.specs.Step.{row_here, after_row, after_native, acts, step}
 use Rattle.jvm_model.specs.View.{over, ended, counted, and_then, touched, IsSafe, IsRow, IsTurn, paid}
 use Rattle.jvm_model.proofs.{Binds.counted_bind, Binds.touched_bind, Binds.safe_first, Binds.safe_rest, Bridges.spent_later}

@@ -1,9 +1,8 @@
 -- What counting down a test says of it.
 use Rattle.std.proofs.Common.{◌≡◌, ℕ, ◌-◌, ◌≤◌, List, Bool, true, false, nat_le, refl, sym, ◌∙◌, inl, inr, arith, Some, None}
 use Rattle.std.proofs.lemmas.Bool.{cases_Bool, leb-true}
-use Rattle.jvm_model.specs.declared.{values.Touch.Touch, outcome.Verdict.Verdict, program.Program.Program}
-use Rattle.jvm_model.specs.{World.World, Access.Ran, Access.run}
-use Rattle.jvm_model.specs.View.{over, ended, counted}
+use Rattle.jvm_model.specs.{declared.values.Touch.Touch, declared.outcome.Verdict.Verdict, declared.program.Program.Program, World.World}
+use Rattle.jvm_model.specs.{Access.Ran, Access.run, View.over, View.ended, View.counted}
 use Rattle.jvm_model.specs.Suite.{End, finished, stuck, out_of_steps, tree, given_at, one_test}
 use Rattle.jvm_model.proofs.Bridges.{compared, counted_is}
 

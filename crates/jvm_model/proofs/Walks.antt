@@ -5,8 +5,7 @@ use Rattle.std.specs.Prelude.{flat_map}
 use Rattle.std.specs.List.{IsDistinct}
 use Rattle.std.proofs.lemmas.Bool.{eqb-true, eq-eqb, false_from_ne_true, or_cases, or_right}
 use Rattle.std.proofs.lemmas.Map.Steps.{length-le_from_distinct_below}
-use Rattle.jvm_model.specs.declared.program.Program.{Program}
-use Rattle.jvm_model.specs.{Classes.class_at, Classes.class_bound, Classes.member, Classes.lineage_in, Lookup.pedigree_in}
+use Rattle.jvm_model.specs.{declared.program.Program.Program, Classes.class_at, Classes.class_bound, Classes.member, Classes.lineage_in, Lookup.pedigree_in}
 use Rattle.jvm_model.specs.Linked.{IsClass, IsDirect, IsAncestor, direct, further, Linked}
 use Rattle.jvm_model.proofs.Upwards.{superclass_is, all_apart}
 

@@ -1,12 +1,11 @@
 -- What a program says of its classes, fields and methods.
 use Rattle.std.specs.Prelude.{ℕ, zero, suc, List, [], ◌∷◌, ◌++◌, get_or, replicate, map, filter, Bool, true, false, not, ◌&&◌, cond, nat_eq, ◌/◌, ◌%◌, pos, Option, Some, None, flat_map, is_some}
 use Rattle.std.specs.{List.list_any, List.list_all, Str.bytes_eq}
-use Rattle.jvm_model.specs.declared.values.{Value.Value, Value.TheVariants.Int, Value.TheVariants.Long, Value.TheVariants.Null, Kind.Kind, Base.Base}
+use Rattle.jvm_model.specs.declared.values.{Value.Value, Value.TheVariants.Int, Value.TheVariants.Long, Value.TheVariants.Null, Kind.Kind, Base.Base, Head.Head}
 use Rattle.jvm_model.specs.declared.values.Kind.TheVariants as kind
 use Rattle.jvm_model.specs.declared.values.Base.TheVariants as base
-use Rattle.jvm_model.specs.declared.{values.Head.Head, instr.Instr.Instr}
-use Rattle.jvm_model.specs.declared.program.{Program.Program, ClassRec.ClassRec, FieldRec.FieldRec, MethodRec.MethodRec, Body.Body, Placed.Placed}
-use Rattle.jvm_model.specs.World.{Object}
+use Rattle.jvm_model.specs.declared.{instr.Instr.Instr, program.Program.Program, program.ClassRec.ClassRec, program.FieldRec.FieldRec}
+use Rattle.jvm_model.specs.{declared.program.MethodRec.MethodRec, declared.program.Body.Body, declared.program.Placed.Placed, World.Object}
 
 -- what stands at a number that a program lacks
 abbrev pub no_class : ClassRec

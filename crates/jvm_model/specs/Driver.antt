@@ -10,8 +10,7 @@ use Rattle.std.specs.Str.{bytes_eq}
 use Rattle.jvm_model.specs.Access.{Access, done, read, make, spend, bind}
 use Rattle.jvm_model.specs.Builtin.{abstract_method_error, assertion_error, message_field}
 use Rattle.jvm_model.specs.Classes.{class_at, method_at, literal_at, upwards, is_below, is_static, layout, blank, instance_head, init_name}
-use Rattle.jvm_model.specs.Entries.{with_entry, frame_of, frame_cost}
-use Rattle.jvm_model.specs.{Kinds.class_of, Throwing.throws}
+use Rattle.jvm_model.specs.{Entries.with_entry, Entries.frame_of, Entries.frame_cost, Kinds.class_of, Throwing.throws}
 use Rattle.jvm_model.specs.Rows.{Used, ready, begun, refused, begin}
 use Rattle.jvm_model.specs.State.{State, Turn, next, ended, stuck_turn, test_at, with_entries}
 

@@ -1,9 +1,8 @@
 -- The look-up of fields and methods (JVMS 5.4.3.2 to 5.4.3.4, without access).
 use Rattle.std.specs.Prelude.{ℕ, zero, suc, List, [], ◌∷◌, ◌++◌, Bool, false, not, ◌&&◌, cond, filter, flat_map, find, Option, Some, None}
-use Rattle.jvm_model.specs.declared.{values.Kind.Kind, program.Program.Program}
+use Rattle.jvm_model.specs.{declared.values.Kind.Kind, declared.program.Program.Program, Builtin.object_class, Selection.kept_of, Selection.has_code}
 use Rattle.jvm_model.specs.declared.values.Kind.TheVariants as kind
 use Rattle.std.specs.Str.{bytes_eq}
-use Rattle.jvm_model.specs.{Builtin.object_class, Selection.kept_of, Selection.has_code}
 use Rattle.jvm_model.specs.Classes.{class_at, field_at, method_at, is_private, is_static, is_interface, class_bound, upwards, first_mentions, init_name}
 
 -- the field n has this name and descriptor

@@ -1,8 +1,7 @@
 -- The built-in methods by group: each runs in the step that calls it.
-use Rattle.jvm_model.specs.declared.{library.Native.Native, program.Program.Program}
+use Rattle.jvm_model.specs.{declared.library.Native.Native, declared.program.Program.Program, Access.Access, Rows.Answer, Working.Working}
 use Rattle.jvm_model.specs.declared.library.Native.TheVariants as native
-use Rattle.jvm_model.specs.{Access.Access, Rows.Answer, Working.Working, NativesObject.native_object, NativesObject.native_throwable}
-use Rattle.jvm_model.specs.NativesString.{native_string, native_builder}
+use Rattle.jvm_model.specs.{NativesObject.native_object, NativesObject.native_throwable, NativesString.native_string, NativesString.native_builder}
 use Rattle.jvm_model.specs.NativesOutside.{native_system, native_print, native_files, native_env}
 
 pub data NativeGroup : Type 0 where

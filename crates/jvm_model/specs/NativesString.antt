@@ -6,8 +6,7 @@ use Rattle.jvm_model.specs.declared.{values.Value.Value, library.Native.Native, 
 use Rattle.jvm_model.specs.declared.values.Value.TheVariants.{Int, Long, Null, Lit, Obj}
 use Rattle.jvm_model.specs.declared.values.Location.TheVariants as place
 use Rattle.jvm_model.specs.declared.library.Native.TheVariants as native
-use Rattle.jvm_model.specs.Access.{Access, read, write, spend}
-use Rattle.jvm_model.specs.{Builtin.string_class, Builtin.string_index_exception, Kinds.class_of}
+use Rattle.jvm_model.specs.{Access.Access, Access.read, Access.write, Access.spend, Builtin.string_class, Builtin.string_index_exception, Kinds.class_of}
 use Rattle.jvm_model.specs.Rows.{Answer, none_here, faults, popping, on_int, on_long, on_object, on_reference, on_text, with_kind}
 use Rattle.jvm_model.specs.Working.{Working, operands, with_operands, answers, answers_text, char_of, boolean_text, truth}
 

@@ -1,8 +1,7 @@
 -- The states that the steps of a test come to, and what a step throws by itself.
 use Rattle.std.specs.Prelude.{◌≡◌, ℕ, nat_eq, Bool, false, cond, Option, Some, None}
 use Rattle.jvm_model.specs.declared.{values.Value.Value, values.Value.TheVariants.Obj, program.Program.Program}
-use Rattle.jvm_model.specs.World.{World, size, object_at}
-use Rattle.jvm_model.specs.{Access.run, Builtin.stack_overflow_error, Kinds.class_of, Step.step, Step.turn}
+use Rattle.jvm_model.specs.{World.World, World.size, World.object_at, Access.run, Builtin.stack_overflow_error, Kinds.class_of, Step.step, Step.turn}
 use Rattle.jvm_model.specs.State.{State, Turn, next, ended, stuck_turn, started}
 
 -- test t, begun in the world w, comes to the state s in the world v

@@ -7,8 +7,7 @@ use Rattle.jvm_model.specs.declared.values.Kind.TheVariants as kind
 use Rattle.jvm_model.specs.declared.values.Location.TheVariants as place
 use Rattle.jvm_model.specs.declared.instr.Cell.TheVariants as cell
 use Rattle.jvm_model.specs.declared.instr.Instr.TheVariants as form
-use Rattle.jvm_model.specs.declared.program.Program.{Program}
-use Rattle.jvm_model.specs.Access.{Access, read, write}
+use Rattle.jvm_model.specs.{declared.program.Program.Program, Access.Access, Access.read, Access.write}
 use Rattle.jvm_model.specs.{Builtin.array_index_exception, Builtin.array_store_exception, Entries.Entries, Entries.with_stack}
 use Rattle.jvm_model.specs.{Kinds.element_kind, Kinds.kind_fits, Narrow.narrow}
 use Rattle.et_base.specs.Numbers.{l2i}

@@ -1,10 +1,9 @@
 -- getfield and putfield (JVMS 6.5): the field is read or written; a null object throws.
 use Rattle.std.specs.Prelude.{◌∷◌}
 use Rattle.jvm_model.specs.declared.values.Location.TheVariants as place
-use Rattle.jvm_model.specs.declared.{instr.Instr.Instr, program.Program.Program}
+use Rattle.jvm_model.specs.{declared.instr.Instr.Instr, declared.program.Program.Program, Access.Access, Access.read, Access.write, Classes.field_at}
 use Rattle.jvm_model.specs.declared.instr.Instr.TheVariants as form
-use Rattle.jvm_model.specs.Access.{Access, read, write}
-use Rattle.jvm_model.specs.{Classes.field_at, Entries.Entries, Entries.with_stack, Narrow.narrowed}
+use Rattle.jvm_model.specs.{Entries.Entries, Entries.with_stack, Narrow.narrowed}
 use Rattle.jvm_model.specs.Rows.{Answer, none_here, goes_on, popping, on_object}
 
 unfoldable pub row_fields : Program → Instr → Entries → Access (Answer Entries)

@@ -1,10 +1,9 @@
 -- getstatic and putstatic (JVMS 6.5): the declaring class is used, then the static is read or written.
 use Rattle.std.specs.Prelude.{ℕ, ◌∷◌}
 use Rattle.jvm_model.specs.declared.values.Location.TheVariants as place
-use Rattle.jvm_model.specs.declared.{instr.Instr.Instr, program.Program.Program}
+use Rattle.jvm_model.specs.{declared.instr.Instr.Instr, declared.program.Program.Program, Access.Access, Access.read, Access.write, Classes.field_at}
 use Rattle.jvm_model.specs.declared.instr.Instr.TheVariants as form
-use Rattle.jvm_model.specs.Access.{Access, read, write}
-use Rattle.jvm_model.specs.{Classes.field_at, Entries.Entries, Narrow.narrowed}
+use Rattle.jvm_model.specs.{Entries.Entries, Narrow.narrowed}
 use Rattle.jvm_model.specs.Rows.{Answer, none_here, goes_on, popping, using}
 
 -- what comes once the class may be used

@@ -1,10 +1,9 @@
 -- The state of a test beside the world, and what a step makes of it.
 use Rattle.std.specs.Prelude.{ℕ, List, [], get_or, ◌-◌, Option, Some, None, pos}
-use Rattle.jvm_model.specs.declared.{values.Value.Value, outcome.Own.Own, outcome.Verdict.Verdict}
-use Rattle.jvm_model.specs.declared.state.{EntryKind.EntryKind, EntryKind.TheVariants.Absent, EntryKind.TheVariants.InMethod, EntryKind.TheVariants.InClass}
-use Rattle.jvm_model.specs.declared.{state.Stage.Stage, program.Program.Program, program.TestEntry.TestEntry}
+use Rattle.jvm_model.specs.declared.{values.Value.Value, outcome.Own.Own, outcome.Verdict.Verdict, state.EntryKind.EntryKind}
+use Rattle.jvm_model.specs.declared.state.{EntryKind.TheVariants.Absent, EntryKind.TheVariants.InMethod, EntryKind.TheVariants.InClass, Stage.Stage}
+use Rattle.jvm_model.specs.{declared.program.Program.Program, declared.program.TestEntry.TestEntry, Entries.Entries, Entries.no_entries}
 use Rattle.jvm_model.specs.declared.state.Stage.TheVariants.{First, Made, Built, SetUp, Called, Last}
-use Rattle.jvm_model.specs.Entries.{Entries, no_entries}
 
 -- All of a test's state but the world; its units are counted by the run.
 pub record State : Type 0 where

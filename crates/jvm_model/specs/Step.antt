@@ -1,15 +1,14 @@
 -- The step of the machine: one case for each row of the table of steps.
 use Rattle.std.specs.Prelude.{ℕ, List, Option, Some, None}
-use Rattle.jvm_model.specs.declared.{values.Value.Value, values.Touch.Touch, instr.Instr.Instr, library.Native.Native}
+use Rattle.jvm_model.specs.declared.{values.Value.Value, values.Touch.Touch, instr.Instr.Instr, library.Native.Native, state.EntryKind.EntryKind}
 use Rattle.jvm_model.specs.declared.instr.Instr.TheVariants as form
 use Rattle.jvm_model.specs.declared.outcome.Next.TheVariants.{Go, Fault, Raise, Enter, Leave, Over}
-use Rattle.jvm_model.specs.declared.state.{EntryKind.EntryKind, EntryKind.TheVariants.Absent, EntryKind.TheVariants.InMethod, EntryKind.TheVariants.InClass}
-use Rattle.jvm_model.specs.declared.program.Program.{Program}
-use Rattle.jvm_model.specs.{World.World, Classes.method_at, Classes.form_at, Entries.Entries, RowsMoves.row_moves, RowsArith.row_arith}
+use Rattle.jvm_model.specs.declared.state.EntryKind.TheVariants.{Absent, InMethod, InClass}
+use Rattle.jvm_model.specs.{declared.program.Program.Program, World.World, Classes.method_at, Classes.form_at, Entries.Entries, RowsMoves.row_moves}
+use Rattle.jvm_model.specs.{RowsArith.row_arith, RowsBranches.row_branches, RowsStatics.row_statics, RowsFields.row_fields, RowsCreate.row_create}
 use Rattle.jvm_model.specs.Access.{Access, done, spend, bind, run}
 use Rattle.jvm_model.specs.Rows.{Answer, answer, stuck_row, popping, on_object, none_here}
-use Rattle.jvm_model.specs.{RowsBranches.row_branches, RowsStatics.row_statics, RowsFields.row_fields, RowsCreate.row_create, RowsArrays.row_arrays}
-use Rattle.jvm_model.specs.{RowsCasts.row_casts, RowsCalls.row_calls, RowsReturn.row_return, Working.Working, Natives.row_native}
+use Rattle.jvm_model.specs.{RowsArrays.row_arrays, RowsCasts.row_casts, RowsCalls.row_calls, RowsReturn.row_return, Working.Working, Natives.row_native}
 use Rattle.jvm_model.specs.{Initialise.row_finish, Initialise.row_fail, Raising.row_raise, Throwing.throws, Driver.drive}
 use Rattle.jvm_model.specs.State.{State, Turn, next, stuck_turn, raise, with_entries}
 

@@ -2,9 +2,7 @@
 use Rattle.std.specs.Prelude.{ℕ, zero, suc, ◌+◌, ◌-◌, List, [], ◌∷◌, map, length, slice_get, Bool, true, false, cond, nat_le, min, Option, Some, None}
 use Rattle.std.specs.List.{range_with_len}
 use Rattle.jvm_model.specs.declared.{values.InitState.TheVariants.Idle, values.Touch.Touch, outcome.Outcome.Outcome, outcome.Verdict.Verdict}
-use Rattle.jvm_model.specs.declared.program.Program.{Program}
-use Rattle.jvm_model.specs.{World.World, Step.step}
-use Rattle.jvm_model.specs.Access.{Access, done, bind, run}
+use Rattle.jvm_model.specs.{declared.program.Program.Program, World.World, Step.step, Access.Access, Access.done, Access.bind, Access.run}
 use Rattle.jvm_model.specs.State.{State, Turn, next, ended, stuck_turn, test_at, started}
 
 -- the world before the first test: no objects, the statics' opening values, no class initialised, the suite's files

@@ -4,8 +4,7 @@ use Rattle.et_base.specs.Quotes.{quoted_units, quoted_bytes, name_of}
 use Rattle.jvm_model.specs.declared.{values.Location.Location, outcome.Cause.Cause, outcome.Outcome.Outcome, outcome.Verdict.Verdict}
 use Rattle.jvm_model.specs.declared.values.Location.TheVariants as place
 use Rattle.jvm_model.specs.declared.outcome.Verdict.TheVariants.{Passed, Failed, Error}
-use Rattle.jvm_model.specs.declared.program.{Names.Names, Program.Program}
-use Rattle.jvm_model.specs.Classes.{class_at, field_at}
+use Rattle.jvm_model.specs.{declared.program.Names.Names, declared.program.Program.Program, Classes.class_at, Classes.field_at}
 
 abbrev pub message_text : Option (List ℕ) → List ℕ
 message_text None = []

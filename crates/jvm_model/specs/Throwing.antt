@@ -1,8 +1,7 @@
 -- A step that throws by itself.
 use Rattle.std.specs.Prelude.{ℕ}
-use Rattle.jvm_model.specs.declared.{values.Value.TheVariants.Obj, program.Program.Program}
-use Rattle.jvm_model.specs.{Access.Access, Access.done, Access.make, Access.spend, Classes.blank, Classes.instance_head}
-use Rattle.jvm_model.specs.State.{State, Turn, next, raise}
+use Rattle.jvm_model.specs.{declared.values.Value.TheVariants.Obj, declared.program.Program.Program, Access.Access, Access.done, Access.make, Access.spend}
+use Rattle.jvm_model.specs.{Classes.blank, Classes.instance_head, State.State, State.Turn, State.next, State.raise}
 
 -- A new throwable of the class is made, without a message, and raised. It costs 2 besides 1.
 unfoldable pub throws : Program → ℕ → State → Access Turn

@@ -1,11 +1,9 @@
 -- A program whose superclasses and superinterfaces are among its classes has exactly one first cycle, or has none.
 use Rattle.std.proofs.Common.{◌≡◌, ◌⊎◌, ℕ, zero, suc, ◌+◌, ◌<◌, ◌≤◌, List, [], ◌∷◌, ◌++◌, length, get_or, take, Bool, true, false, if◌then◌else◌, nat_eq, refl, ap, subst, inl, inr, arith, Option, Some, None}
 use Rattle.std.specs.{List.IsDistinct, Cmp.nat_eq_equiv}
-use Rattle.std.proofs.lemmas.Bool.{cases_lt, cases_order}
-use Rattle.std.proofs.{lemmas.Map.Keys.IsDistinct-push, lemmas.Map.Steps.length-le_from_distinct_below}
+use Rattle.std.proofs.lemmas.{Bool.cases_lt, Bool.cases_order, Map.Keys.IsDistinct-push, Map.Steps.length-le_from_distinct_below}
 use Rattle.indexmap.specs.IndexSet.{insert_key, insert_all}
-use Rattle.jvm_model.specs.declared.program.Program.{Program}
-use Rattle.jvm_model.specs.{Builtin.builtin_count, Library.builtin_classes, Classes.member}
+use Rattle.jvm_model.specs.{declared.program.Program.Program, Builtin.builtin_count, Library.builtin_classes, Classes.member}
 use Rattle.jvm_model.specs.Linked.{IsAncestor, direct, further}
 use Rattle.member_lookup.specs.Ancestors.{directs, AreAncestors, IsFirstCycle}
 use Rattle.member_lookup.proofs.Ancestry.{in_directs, Searches, searches_none, searches_more, searches_all, NoneBelow, none_builtin, none_more, none_all}

@@ -5,9 +5,8 @@ use Rattle.std.proofs.{Math.Path.fun_ext, Math.Bool.or-false, Math.Bool.or_comm,
 use Rattle.std.proofs.{lemmas.List.Elements.filter_agree, lemmas.List.Elements.filter_more, lemmas.List.Elements.filter-append, Math.Seq.drop-cons}
 use Rattle.std.proofs.lemmas.List.{take-append-drop}
 use Rattle.indexmap.specs.{IndexMap.IndexMap, IndexMap.keys, IndexSet.insert_all}
-use Rattle.jvm_model.specs.declared.program.Program.{Program}
+use Rattle.jvm_model.specs.{declared.program.Program.Program, Selection.kept_of, Selection.has_code, Selection.redeclares}
 use Rattle.jvm_model.specs.Classes.{class_at, method_at, class_bound, member, first_mentions, lineage_in, own_interfaces, upwards_in, upwards}
-use Rattle.jvm_model.specs.Selection.{kept_of, has_code, redeclares}
 use Rattle.jvm_model.specs.Lookup.{is_field, is_method, field_path_in, field_path, find_field, pedigree_in, superinterfaces, interface_methods, one_or_first, find_in_interfaces, find_declared}
 use Rattle.jvm_model.proofs.{Interfaces.member-first_mentions, Upwards.chain}
 use Rattle.member_lookup.specs.Walks.{IsWalked, Visits, above_class, is_kept, is_open, nexts, walk}

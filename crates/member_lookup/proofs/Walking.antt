@@ -1,12 +1,10 @@
 -- Walks over the classes above a class.
 use Rattle.std.proofs.Common.{◌≡◌, ℕ, zero, suc, ◌+◌, ◌-◌, ◌<◌, ◌≤◌, List, [], ◌∷◌, ◌++◌, length, get_or, take, flat_map, append-nil, Bool, true, false, cond, if◌then◌else◌, nat_eq, refl, sym, ◌∙◌, ap, subst, inl, inr, arith, Option, Some, None}
 use Rattle.std.proofs.lemmas.Bool.{or_cases, or_left, or_right, eqb-true, eq-eqb, leb-true}
-use Rattle.std.proofs.lemmas.List.{take_more}
-use Rattle.std.proofs.lemmas.List.Concat.{flat_map-append}
+use Rattle.std.proofs.lemmas.List.{take_more, Concat.flat_map-append}
 use Rattle.std.specs.{Map.keys_of, Option.option_to_list}
 use Rattle.indexmap.specs.{IndexMap.IndexMap, IndexMap.get, IndexMap.keys, IndexSet.insert_key, IndexSet.insert_all}
-use Rattle.jvm_model.specs.declared.program.Program.{Program}
-use Rattle.jvm_model.specs.Classes.{class_at, member}
+use Rattle.jvm_model.specs.{declared.program.Program.Program, Classes.class_at, Classes.member}
 use Rattle.member_lookup.specs.Walks.{nexts, walk, IsWalked, Visits, is_walked}
 use Rattle.member_lookup.proofs.Ancestry.{any_append, member_kept, member_there}
 

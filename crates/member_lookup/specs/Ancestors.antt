@@ -1,8 +1,7 @@
 -- Superclasses and superinterfaces of a class, as lists, and the first class that is its own ancestor.
 use Rattle.std.specs.Prelude.{ℕ, ◌+◌, ◌<◌, List, ◌++◌, ◌≡◌, ◌↔◌, true, Option, Some, None}
 use Rattle.std.specs.Option.{option_to_list}
-use Rattle.jvm_model.specs.declared.program.Program.{Program}
-use Rattle.jvm_model.specs.{Builtin.builtin_count, Classes.class_at, Classes.member, Linked.IsAncestor}
+use Rattle.jvm_model.specs.{declared.program.Program.Program, Builtin.builtin_count, Classes.class_at, Classes.member, Linked.IsAncestor}
 
 -- the superclass and the direct superinterfaces of a class
 abbrev pub directs : Program → ℕ → List ℕ

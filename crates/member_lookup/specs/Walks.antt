@@ -1,9 +1,8 @@
 -- The classes above a class, in the order in which look-ups come to them.
 use Rattle.std.specs.Prelude.{◌≡◌, ℕ, zero, suc, List, [], ◌∷◌, ◌++◌, flat_map, Bool, true, false, not, ◌&&◌, cond, nat_eq, nat_le, Option, Some, None}
 use Rattle.indexmap.specs.{IndexMap.IndexMap, IndexMap.get, IndexMap.keys, IndexSet.insert_all}
-use Rattle.jvm_model.specs.declared.program.Program.{Program}
+use Rattle.jvm_model.specs.{declared.program.Program.Program, Lookup.is_method, Selection.has_code}
 use Rattle.jvm_model.specs.Classes.{class_at, method_at, class_bound, is_private, is_static, member}
-use Rattle.jvm_model.specs.{Lookup.is_method, Selection.has_code}
 use Rattle.std.specs.Option.{option_to_list}
 
 -- the classes just above one: its direct superinterfaces and, where asked, its superclass behind them

@@ -2,15 +2,13 @@
 use Rattle.std.proofs.Common.{◌≡◌, ℕ, ℤ, Bool, true, false, cond, List, refl, subst, arith}
 use Rattle.jvm_model.specs.declared.values.{Value.Value, InitState.InitState}
 use Rattle.jvm_model.specs.declared.values.InitState.TheVariants.{Idle, Running, Done, Erroneous}
-use Rattle.jvm_model.specs.declared.{values.Kind.Kind, program.Program.Program}
-use Rattle.jvm_model.specs.Access.{Access, spend, bind}
+use Rattle.jvm_model.specs.{declared.values.Kind.Kind, declared.program.Program.Program, Access.Access, Access.spend, Access.bind, Classes.literal_at}
+use Rattle.jvm_model.specs.Entries.{Entries}
 use Rattle.jvm_model.specs.Builtin.{null_pointer_exception, no_class_error, stack_overflow_error, stream_class, string_class}
-use Rattle.jvm_model.specs.{Classes.literal_at, Entries.Entries}
 use Rattle.jvm_model.specs.Rows.{Answer, none_here, faults, goes_on, goes_to, popping, on_int, on_long, on_object, on_reference, constant_kind, with_kind, on_text, Used, begun_at, begin, once, using}
 use Rattle.order_law.specs.Pairing.{PairedList, no_more, one_more, PairedValue, ints, longs, nulls, literals, objects, inits, heads, texts, PairedKind, class_kinds, Paired, both_done, both_read, both_write, both_make, both_spend}
 use Rattle.order_law.specs.{Numbers.Numbers, Numbers.Tested, Numbers.with_places, Matched.MatchedCode, Matched.MatchedStarts}
-use Rattle.order_law.proofs.{Lists.test-paired, Twins.Twins}
-use Rattle.order_law.proofs.Programs.{next_place-paired, trivial-paired, pick-class}
+use Rattle.order_law.proofs.{Lists.test-paired, Twins.Twins, Programs.next_place-paired, Programs.trivial-paired, Programs.pick-class}
 use Rattle.order_law.proofs.States.{PairedEntries, PairedFrame, go, fault, PairedAnswer, answered, no_rows, PairedUsed, both_ready, both_begun, both_refused, stack-paired, place-paired, full-paired, entry-paired, class_entry-paired}
 
 module _ (tw : Twins) where

@@ -1,8 +1,7 @@
 -- More paired places pair more; what stands where nothing was made is paired.
 use Rattle.std.proofs.Common.{◌≡◌, ℕ, true, refl, subst, Option, Some}
 use Rattle.std.proofs.lemmas.Option.{same_Some}
-use Rattle.jvm_model.specs.declared.values.{Value.Value, Location.Location}
-use Rattle.jvm_model.specs.World.{Content, no_object, part}
+use Rattle.jvm_model.specs.{declared.values.Value.Value, declared.values.Location.Location, World.Content, World.no_object, World.part}
 use Rattle.order_law.specs.Pairing.{Matching, PairedOption, both_none, both_some, PairedValue, ints, longs, nulls, literals, objects, PairedLocation, statics, inits, heads, at_field, at_elem, texts, files, props, class_kinds, PairedContent}
 use Rattle.order_law.specs.Numbers.{Numbers, with_places}
 

@@ -2,18 +2,16 @@
 use Rattle.std.proofs.Common.{◌≡◌, ◌⊎◌, ℕ, zero, suc, ◌+◌, ◌-◌, ◌<◌, ◌≤◌, true, false, nat_le, List, [], ◌∷◌, length, get_or, map, slice_get, refl, sym, ◌∙◌, ap, subst, inl, inr, arith, Option, Some, None}
 use Rattle.std.specs.List.{range_with_len}
 use Rattle.std.proofs.lemmas.Bool.{cases_Bool, cases_order, cases_lt, eqb-true, eq-eqb}
-use Rattle.jvm_model.specs.declared.{values.Value.Value, values.Location.Location, outcome.Outcome.Outcome}
+use Rattle.jvm_model.specs.declared.{values.Value.Value, values.Location.Location, outcome.Outcome.Outcome, program.Program.Program, program.FieldRec.FieldRec}
 use Rattle.jvm_model.specs.declared.values.Value.TheVariants.{Int, Long, Null, Lit, Obj}
 use Rattle.jvm_model.specs.declared.values.Location.TheVariants as place
-use Rattle.jvm_model.specs.declared.program.{Program.Program, FieldRec.FieldRec, TestEntry.TestEntry}
-use Rattle.jvm_model.specs.World.{Content, World, size, at}
-use Rattle.jvm_model.specs.{Access.Ran, Classes.no_field, State.test_at, Linked.Linked}
+use Rattle.jvm_model.specs.{declared.program.TestEntry.TestEntry, World.Content, World.World, World.size, World.at, Access.Ran, Classes.no_field, State.test_at}
+use Rattle.jvm_model.specs.Linked.{Linked}
 use Rattle.jvm_model.specs.Suite.{End, tree, opening, Given, given_at, one_test, with_first, runs_on, runs, all_tests, outcome_in, given_by_test, seq, within_limit, is_detected}
 use Rattle.jvm_model.proofs.{Locations.IsOf, Locations.at_past, Runs.split}
-use Rattle.order_law.specs.declared.edges.{Edge.Edge, EdgeKind.TheVariants.Raw}
-use Rattle.order_law.specs.{Exposed.written, Numbers.with_places, Numbers.same_numbers, Matched.PairedTest, Outcomes.PairedEnd}
+use Rattle.order_law.specs.{declared.edges.Edge.Edge, declared.edges.EdgeKind.TheVariants.Raw, Exposed.written, Numbers.with_places, Numbers.same_numbers}
+use Rattle.order_law.specs.{Matched.PairedTest, Outcomes.PairedEnd, Frame.Agree, Frame.Forward, Frame.Alike}
 use Rattle.order_law.specs.Pairing.{Matching, OneToOne, PairedValue, ints, longs, nulls, literals, PairedLocation, statics, inits, heads, at_field, at_elem, texts, files, props, PairedContent}
-use Rattle.order_law.specs.Frame.{Agree, Forward, Alike}
 use Rattle.order_law.specs.Conflicts.{Member, HasEdge, Before, edge, Distinct, InOrder, Fits, History, down, last}
 use Rattle.order_law.specs.Histories.{after_history, ran_after, given_after, writes_of, exposed_of, RecordOf, IsTestNumber, AreSequential, LawOfOrder}
 use Rattle.order_law.proofs.{Pairs.written-paired, Pairs.place-paired, Frame.frame, Frame.grows, Leaves.unwritten, Leaves.written_partner, Steps.tree-paired}

@@ -14,8 +14,7 @@ use Rattle.jvm_model.specs.RowsCalls.{enters_body, enters_native, calls, calls_s
 use Rattle.order_law.specs.Pairing.{PairedList, one_more, PairedOption, both_none, both_some, ints, longs, nulls, literals, objects, statics, heads, at_field, at_elem, booleans, bytes, chars, shorts, int_bases, long_bases, class_bases, PairedKind, class_kinds, array_kinds, PairedHead, Paired, both_done, both_read, both_write, both_make, both_spend}
 use Rattle.order_law.specs.{Numbers.Tested, Numbers.with_places, Forms.PairedInstr, Matched.PairedBody, Matched.MatchedStarts}
 use Rattle.order_law.specs.Forms as same
-use Rattle.order_law.proofs.{Twins.Twins, PlainRows.narrowed-paired}
-use Rattle.order_law.proofs.Lists.{either, length-paired, get-list}
+use Rattle.order_law.proofs.{Twins.Twins, PlainRows.narrowed-paired, Lists.either, Lists.length-paired, Lists.get-list}
 use Rattle.order_law.proofs.Programs.{interface-paired, layout-paired, blank-paired, instance-paired, element-paired, fits-paired, class_of-paired, named-paired, PairedSelected, both_chosen, both_failing, virtual-paired, interface_call-paired, special-paired}
 use Rattle.order_law.proofs.States.{entering, stack-paired, full-paired, cost-paired, called-paired}
 use Rattle.order_law.proofs.Combinators.{V, E, Frames, Rows, bind-paired, choose-paired, spend-paired, stuck_row-paired, faults-paired, goes_on-paired, popping-paired, on_int-paired, on_object-paired, on_reference-paired, with_kind-paired, using-paired}

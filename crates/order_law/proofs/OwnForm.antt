@@ -2,8 +2,7 @@
 use Rattle.std.proofs.Common.{◌≡◌, ℕ, zero, suc, ◌+◌, ◌-◌, ◌<◌, ◌≤◌, Bool, true, not, ◌&&◌, nat_eq, nat_lt, nat_le, List, [], ◌∷◌, ◌++◌, map, filter, flat_map, length, slice_get, refl, sym, ◌∙◌, ap, subst, inl, inr, arith, Option, Some, None}
 use Rattle.std.specs.List.{range_with_len, list_all}
 use Rattle.std.proofs.lemmas.Bool.{cases_Bool, and_from, and_parts, or_left, or_right, eq-eqb, lt-ltb, le-leb, leb-true}
-use Rattle.std.proofs.lemmas.List.{length-map}
-use Rattle.std.proofs.lemmas.List.FromFn.{length-range_with_len}
+use Rattle.std.proofs.lemmas.List.{length-map, FromFn.length-range_with_len}
 use Rattle.jvm_model.specs.declared.{values.Location.Location, values.Touch.Touch, values.Kind.Kind, program.Program.Program}
 use Rattle.jvm_model.specs.{World.same, Builtin.builtin_count, State.test_at, Linked.IsGiven}
 use Rattle.jvm_model.specs.Suite.{Given, runs, all_tests, seq, is_detected, suite_limit, within_limit, units_of, outcome_in, given_by_test}

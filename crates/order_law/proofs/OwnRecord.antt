@@ -2,8 +2,7 @@
 use Rattle.std.proofs.Common.{◌≡◌, ◌⊎◌, ℕ, zero, suc, ◌+◌, ◌-◌, ◌<◌, ◌≤◌, Bool, true, false, not, ◌&&◌, ◌||◌, cond, List, [], ◌∷◌, map, filter, flat_map, length, refl, sym, ◌∙◌, ap, subst, inl, inr, arith}
 use Rattle.std.specs.List.{range_with_len}
 use Rattle.std.proofs.lemmas.Bool.{cases_Bool, cases_lt, cases_eq, lt-ltb, le-ltb, and_parts, and_from, or_cases, not-true, not_from_false}
-use Rattle.jvm_model.specs.declared.{values.Location.Location, values.Touch.Touch, program.Program.Program}
-use Rattle.jvm_model.specs.{World.same, Suite.all_tests}
+use Rattle.jvm_model.specs.{declared.values.Location.Location, declared.values.Touch.Touch, declared.program.Program.Program, World.same, Suite.all_tests}
 use Rattle.jvm_model.proofs.Locations.{same_true}
 use Rattle.order_law.specs.declared.edges.{Edge.Edge, EdgeKind.EdgeKind, EdgeKind.TheVariants.Raw, EdgeKind.TheVariants.Waw, EdgeKind.TheVariants.War}
 use Rattle.order_law.specs.{Exposed.written, Exposed.exposed, Histories.Touches, Histories.touches_of, Histories.writes_in, Histories.exposed_in}

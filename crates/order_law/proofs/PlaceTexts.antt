@@ -2,8 +2,7 @@
 use Rattle.std.proofs.Common.{◌≡◌, ℕ, zero, suc, ◌+◌, ◌/◌, ◌%◌, ◌^◌, ◌<◌, ◌≤◌, Bool, true, false, ◌&&◌, ◌||◌, ◌==◌, if◌then◌else◌, nat_lt, nat_le, cond, List, [], ◌∷◌, ◌++◌, take, length, codes, decimal, refl, ◌∙◌, ap, arith, inl, inr}
 use Rattle.std.specs.{List.list_all, List.flat_map, Fmt.digit_glyph, Str.Parse.AllDigits}
 use Rattle.std.proofs.lemmas.Bool.{cases_Bool, and_from, and_parts, or_cases, le-leb, leb-true, leb-false, ltb-true, ltb-false, eqb-true}
-use Rattle.std.proofs.lemmas.{Fmt.decimal_is_IsNumeral, List.length-append, List.length-take-le}
-use Rattle.std.proofs.{lemmas.Str.Parse.digit_from_value, lemmas.List.Folds.list_all-append}
+use Rattle.std.proofs.lemmas.{Fmt.decimal_is_IsNumeral, List.length-append, List.length-take-le, Str.Parse.digit_from_value, List.Folds.list_all-append}
 use Rattle.jvm_model.specs.declared.{program.Program.Program, values.Location.Location}
 use Rattle.jvm_model.specs.declared.values.Location.TheVariants as place
 use Rattle.jvm_model.specs.{Classes.class_at, Classes.field_at, Texts.object_text, Texts.class_text, Texts.field_text, Texts.location_text}

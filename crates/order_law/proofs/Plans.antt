@@ -1,8 +1,7 @@
 -- Each worker's list is a lawful history.
 use Rattle.std.proofs.Common.{◌≡◌, ℕ, ◌<◌, Bool, true, false, cond, nat_eq, List, [], ◌∷◌, ◌++◌, reverse, refl, sym, ◌∙◌, ap, subst, inl, inr, arith, Option, Some}
 use Rattle.std.proofs.lemmas.Bool.{eqb-true}
-use Rattle.jvm_model.specs.declared.{outcome.Outcome.Outcome, program.Program.Program}
-use Rattle.jvm_model.specs.{World.World, State.test_at, Linked.Linked}
+use Rattle.jvm_model.specs.{declared.outcome.Outcome.Outcome, declared.program.Program.Program, World.World, State.test_at, Linked.Linked}
 use Rattle.jvm_model.specs.Suite.{Given, opening, one_test, runs_on, runs, outcome_in, last_outcome, world_after, seq, is_detected}
 use Rattle.jvm_model.proofs.Runs.{with_last, runs_more, last_outcome_is}
 use Rattle.order_law.specs.declared.edges.{Edge.Edge, EdgeKind.EdgeKind, EdgeKind.TheVariants.Raw, EdgeKind.TheVariants.Waw, EdgeKind.TheVariants.War}

@@ -3,8 +3,7 @@ use Rattle.std.proofs.Common.{◌≡◌, ◌⊎◌, ℕ, zero, suc, ◌<◌, Boo
 use Rattle.std.specs.List.{list_all}
 use Rattle.std.proofs.lemmas.Bool.{cases_Bool, eqb-true, ltb-true, and_parts, not-true}
 use Rattle.std.proofs.lemmas.List.{reverse-append}
-use Rattle.jvm_model.specs.declared.{outcome.Outcome.Outcome, program.Program.Program}
-use Rattle.jvm_model.specs.Classes.{member}
+use Rattle.jvm_model.specs.{declared.outcome.Outcome.Outcome, declared.program.Program.Program, Classes.member}
 use Rattle.order_law.specs.{Conflicts.Member, Conflicts.Distinct, RecordForm.no_repeats, RecordForm.joined, RecordForm.are_chains, RecordForm.numbers_ascend}
 use Rattle.order_law.specs.Plan.{NextOf, chain_at, Ascending, Event, claim, post, claims, posts, Posted, Legal, PostsOnce, AreApart, whole_chains, IsListOf, IsWholeThenPart, PostsInChains, LawOfHistories, FormsApart, ChainsApart}
 use Rattle.order_law.proofs.Members.{member_left, member_right, member_either, member_reversed, reversed_member, member_true}

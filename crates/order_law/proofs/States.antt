@@ -1,14 +1,13 @@
 -- States of two matched programs in pairs.
 use Rattle.std.proofs.Common.{◌≡◌, ℕ, ◌-◌, List, ◌∷◌, length, replicate, nat_le, Bool, true, refl, ap, subst, Option}
-use Rattle.jvm_model.specs.declared.{values.Value.Value, values.Value.TheVariants.Null, outcome.Next.Next, outcome.Verdict.Verdict}
+use Rattle.jvm_model.specs.declared.{values.Value.Value, values.Value.TheVariants.Null, outcome.Next.Next, outcome.Verdict.Verdict, program.Body.Body}
 use Rattle.jvm_model.specs.declared.outcome.Next.TheVariants.{Go, Fault, Raise, Enter, Leave, Over}
-use Rattle.jvm_model.specs.declared.program.{Body.Body, Program.Program}
-use Rattle.jvm_model.specs.declared.state.{EntryKind.EntryKind, EntryKind.TheVariants.Absent, EntryKind.TheVariants.InMethod, EntryKind.TheVariants.InClass}
-use Rattle.jvm_model.specs.declared.state.Stage.{Stage}
+use Rattle.jvm_model.specs.declared.{program.Program.Program, state.EntryKind.EntryKind}
+use Rattle.jvm_model.specs.declared.state.{EntryKind.TheVariants.Absent, EntryKind.TheVariants.InMethod, EntryKind.TheVariants.InClass, Stage.Stage}
+use Rattle.jvm_model.specs.Working.{Working}
 use Rattle.jvm_model.specs.declared.state.Stage.TheVariants.{First, Made, Built, SetUp, Called, Last}
 use Rattle.jvm_model.specs.Entries.{Entry, Entries, no_entries, entry_limit, all_entries, is_full, with_entry, entries_of, popped_entry, with_stack, with_place, class_entry, slots_of, filled, frame_of, frame_cost, called}
 use Rattle.jvm_model.specs.Rows.{Answer, answer, stuck_row, Used, ready, begun, refused}
-use Rattle.jvm_model.specs.Working.{Working}
 use Rattle.jvm_model.specs.State.{State, Turn, next, ended, stuck_turn, test_at}
 use Rattle.order_law.specs.Pairing.{PairedList, no_more, one_more, PairedOption, PairedValue, ints, longs, nulls, literals, objects}
 use Rattle.order_law.specs.{Numbers.Numbers, Numbers.with_places, Matched.PairedBody, Matched.PairedTest, Outcomes.PairedVerdict}

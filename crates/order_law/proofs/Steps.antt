@@ -2,22 +2,20 @@
 use Rattle.std.proofs.Common.{◌≡◌, ℕ, zero, suc, ◌+◌, Bool, true, false, not, cond, List, [], length, refl, ap, subst, arith, Option, Some, None}
 use Rattle.jvm_model.specs.declared.values.{Value.Value, InitState.InitState}
 use Rattle.jvm_model.specs.declared.values.InitState.TheVariants.{Idle, Running, Done, Erroneous}
-use Rattle.jvm_model.specs.declared.{instr.Instr.Instr, library.Native.Native, outcome.Own.Own}
-use Rattle.jvm_model.specs.declared.state.{EntryKind.EntryKind, EntryKind.TheVariants.Absent, EntryKind.TheVariants.InMethod, EntryKind.TheVariants.InClass}
-use Rattle.jvm_model.specs.declared.{state.Stage.Stage, program.Body.Body}
+use Rattle.jvm_model.specs.declared.{instr.Instr.Instr, library.Native.Native, outcome.Own.Own, state.EntryKind.EntryKind}
+use Rattle.jvm_model.specs.declared.state.{EntryKind.TheVariants.Absent, EntryKind.TheVariants.InMethod, EntryKind.TheVariants.InClass, Stage.Stage}
+use Rattle.jvm_model.specs.{declared.program.Body.Body, Access.Access, Access.bind, Entries.Entries, Rows.Answer, Rows.Used, Working.Working}
 use Rattle.std.specs.Str.{bytes_eq}
-use Rattle.jvm_model.specs.{Access.Access, Access.bind, Entries.Entries, Rows.Answer, Rows.Used, Working.Working, Raising.handled, Raising.row_raise}
+use Rattle.jvm_model.specs.{Raising.handled, Raising.row_raise, Classes.literal_at, Classes.is_static, Classes.is_trivial, Classes.init_name, Throwing.throws}
 use Rattle.jvm_model.specs.Builtin.{error_class, initializer_error, no_class_error, stack_overflow_error, abstract_method_error, assertion_error}
-use Rattle.jvm_model.specs.{Classes.literal_at, Classes.is_static, Classes.is_trivial, Classes.init_name, Throwing.throws}
+use Rattle.jvm_model.specs.Suite.{End, after_step, whole, tree}
 use Rattle.jvm_model.specs.Initialise.{Part, superclass_part, parts_of, with_entered, starts_body, starts, looked_at, looks, left_at, finished, finishing, row_finish, fails, fails_anew, was_entered, row_fail}
 use Rattle.jvm_model.specs.State.{State, Turn, test_at, started, or_first, thrown_at, raised_in, raise, with_entries}
 use Rattle.jvm_model.specs.Driver.{no_arguments, set_up_name, tear_down_name, plain_method_in, plain_method_of, driven, drives, once_driven, makes, drive_first, drive_init, drive_method, drive_set_up, judged, judged_text, judged_message, judged_value, judge, drive_tear_down, drive_at, drive}
 use Rattle.jvm_model.specs.Step.{Group, moves, arith as arith_group, branches, statics as statics_group, fields, create, arrays, casts, calls, returns, throw, group_of, row_of, row, after_native, entered, after_row, row_or_none, row_here, acts, step}
-use Rattle.jvm_model.specs.Suite.{End, after_step, whole, tree}
 use Rattle.order_law.specs.Pairing.{PairedList, no_more, one_more, PairedOption, both_none, both_some, PairedValue, ints, longs, nulls, literals, objects, inits, heads, at_field, texts, Paired, both_done, both_read, both_write, both_make, both_spend}
-use Rattle.order_law.specs.{Numbers.Tested, Numbers.with_places, Forms.PairedInstr}
+use Rattle.order_law.specs.{Numbers.Tested, Numbers.with_places, Forms.PairedInstr, Matched.PairedBody, Matched.PairedTest, Matched.MatchedStarts}
 use Rattle.order_law.specs.Forms as same
-use Rattle.order_law.specs.Matched.{PairedBody, PairedTest, MatchedStarts}
 use Rattle.order_law.specs.Outcomes.{both_passed, both_failed, both_error, PairedEnd, both_stuck, both_out, both_finished}
 use Rattle.order_law.proofs.{Pairs.list-append, Twins.Twins, NativeRows.native-paired, NativeRows.W}
 use Rattle.order_law.proofs.Lists.{both, length-paired, filter-paired, map-paired, cond-list}

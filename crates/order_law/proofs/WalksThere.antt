@@ -1,8 +1,7 @@
 -- In a linked program a test has a walk to each earlier object of which it touches something. Each reference in its state is
 -- of a new object or was given by a read, and a read gives it from a static or from a cell of an object that it had.
 use Rattle.std.proofs.Common.{◌≡◌, ◌⊎◌, ℕ, zero, suc, ◌≤◌, List, [], ◌∷◌, ◌++◌, true, cond, nat_eq, get_or, refl, sym, ◌∙◌, ap, subst, inl, inr, arith, Option, Some, None}
-use Rattle.std.proofs.lemmas.Bool.{cases_Bool, eqb-true, eq-eqb, and_parts}
-use Rattle.std.proofs.lemmas.{List.append_assoc, Option.same_Some}
+use Rattle.std.proofs.lemmas.{Bool.cases_Bool, Bool.eqb-true, Bool.eq-eqb, Bool.and_parts, List.append_assoc, Option.same_Some}
 use Rattle.jvm_model.specs.declared.{values.Value.Value, values.Location.Location, values.Touch.Touch, program.Program.Program}
 use Rattle.jvm_model.specs.declared.values.Value.TheVariants.{Int, Long, Null, Lit, Obj}
 use Rattle.jvm_model.specs.declared.values.Location.TheVariants as place

@@ -1,7 +1,6 @@
 -- Tests on the touches of a run.
 use Rattle.std.specs.Prelude.{List, [], ◌∷◌, Bool, false, not, ◌&&◌, ◌||◌, cond}
-use Rattle.jvm_model.specs.declared.values.{Location.Location, Touch.Touch}
-use Rattle.jvm_model.specs.World.{same}
+use Rattle.jvm_model.specs.{declared.values.Location.Location, declared.values.Touch.Touch, World.same}
 
 -- some touch writes L
 abbrev pub written : List Touch → Location → Bool

@@ -1,8 +1,7 @@
 -- Instructions of two programs that are the same but for their numbers.
 use Rattle.std.specs.Prelude.{◌≡◌, ℕ, ℤ, List, Bool, true, Option}
-use Rattle.jvm_model.specs.declared.values.{Value.Value, Value.TheVariants.Int, Value.TheVariants.Long, Value.TheVariants.Null, Value.TheVariants.Lit}
-use Rattle.jvm_model.specs.declared.values.Kind.{Kind}
-use Rattle.jvm_model.specs.declared.instr.{Sort.Sort, Cell.Cell, Op.Op, Conv.Conv, IfTest.IfTest, Instr.Instr}
+use Rattle.jvm_model.specs.declared.values.Value.{Value, TheVariants.Int, TheVariants.Long, TheVariants.Null, TheVariants.Lit}
+use Rattle.jvm_model.specs.declared.{values.Kind.Kind, instr.Sort.Sort, instr.Cell.Cell, instr.Op.Op, instr.Conv.Conv, instr.IfTest.IfTest, instr.Instr.Instr}
 use Rattle.jvm_model.specs.declared.instr.Instr.TheVariants as form
 use Rattle.order_law.specs.{Pairing.PairedKind, Numbers.Numbers, Numbers.Tested}
 

@@ -1,7 +1,6 @@
 -- What the frame law says of two runs.
 use Rattle.std.specs.Prelude.{◌≡◌, ◌⊎◌, ℕ, ◌+◌, ◌<◌, ◌≤◌, List, true}
-use Rattle.jvm_model.specs.declared.values.{Location.Location, Touch.Touch}
-use Rattle.jvm_model.specs.{World.World, World.size, World.at, Access.Ran}
+use Rattle.jvm_model.specs.{declared.values.Location.Location, declared.values.Touch.Touch, World.World, World.size, World.at, Access.Ran}
 use Rattle.order_law.specs.Exposed.{written, exposed}
 use Rattle.order_law.specs.Pairing.{Matching, PairedList, PairedLocation, PairedContent, PairedTouch}
 

@@ -1,8 +1,7 @@
 -- The frame law for two programs and a matching of their numbers.
 use Rattle.std.specs.Prelude.{◌≡◌, ◌⊎◌, ℕ, ◌+◌, ◌<◌, ◌≤◌, Bool, true, Some}
-use Rattle.jvm_model.specs.declared.{values.Location.Location, program.Program.Program}
-use Rattle.jvm_model.specs.World.{World, size, at}
-use Rattle.jvm_model.specs.{State.test_at, Suite.Given, Suite.one_test}
+use Rattle.jvm_model.specs.{declared.values.Location.Location, declared.program.Program.Program, World.World, World.size, World.at, State.test_at}
+use Rattle.jvm_model.specs.Suite.{Given, one_test}
 use Rattle.order_law.specs.{Exposed.written, Frame.Agree, Matched.Matched, Matched.PairedTest, Outcomes.PairedOutcome}
 use Rattle.order_law.specs.Pairing.{Matching, OneToOne, PairedList, PairedLocation, PairedContent, PairedTouch}
 use Rattle.order_law.specs.Numbers.{Numbers, Tested, with_places}

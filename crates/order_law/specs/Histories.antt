@@ -1,10 +1,8 @@
 -- Runs of tests after a history, and the law of order.
 use Rattle.std.specs.Prelude.{◌≡◌, ℕ, ◌<◌, ◌≤◌, List, [], ◌∷◌, length, true, Option, Some}
-use Rattle.jvm_model.specs.declared.{program.Program.Program, values.Touch.Touch}
-use Rattle.jvm_model.specs.{World.World, Access.Ran, Access.run, State.test_at, Linked.Linked}
+use Rattle.jvm_model.specs.{declared.program.Program.Program, declared.values.Touch.Touch, World.World, Access.Ran, Access.run, State.test_at, Linked.Linked}
 use Rattle.jvm_model.specs.Suite.{End, tree, opening, Given, one_test, runs, seq, is_detected}
-use Rattle.order_law.specs.declared.edges.Edge.{Edge}
-use Rattle.order_law.specs.Exposed.{written, exposed}
+use Rattle.order_law.specs.{declared.edges.Edge.Edge, Exposed.written, Exposed.exposed}
 use Rattle.order_law.specs.Conflicts.{Tests, Member, IsRecord, Lawful, down}
 
 -- the run of test t in a world, under its own budget

@@ -1,8 +1,7 @@
 -- Outcomes of two programs that are the same but for the number of a throwable's class.
 use Rattle.std.specs.Prelude.{◌≡◌, ℕ, List, true}
 use Rattle.jvm_model.specs.declared.outcome.{Cause.Cause, Verdict.Verdict, Verdict.TheVariants.Passed, Verdict.TheVariants.Failed, Verdict.TheVariants.Error}
-use Rattle.jvm_model.specs.declared.outcome.Outcome.{Outcome}
-use Rattle.jvm_model.specs.Suite.{End, finished, stuck, out_of_steps}
+use Rattle.jvm_model.specs.{declared.outcome.Outcome.Outcome, Suite.End, Suite.finished, Suite.stuck, Suite.out_of_steps}
 use Rattle.order_law.specs.Numbers.{Numbers}
 
 pub record PairedCause (n : Numbers) (x y : Cause) : Type 0 where

@@ -1,10 +1,9 @@
 -- What the record of a program keeps of a record's form (this project's).
 use Rattle.std.specs.Prelude.{◌≡◌, ℕ, ◌-◌, ◌<◌, ◌≤◌, ◌^◌, List, map, length, Bool, true, nat_lt}
 use Rattle.std.specs.List.{list_all}
-use Rattle.jvm_model.specs.declared.{program.Program.Program, values.Kind.Kind, values.Location.Location}
+use Rattle.jvm_model.specs.{declared.program.Program.Program, declared.values.Kind.Kind, declared.values.Location.Location, Classes.class_at, Classes.field_at}
 use Rattle.jvm_model.specs.declared.values.Location.TheVariants as place
-use Rattle.jvm_model.specs.{Classes.class_at, Classes.field_at, Texts.location_text, Builtin.builtin_count, Linked.Linked}
-use Rattle.jvm_model.specs.Suite.{all_tests, seq, is_detected}
+use Rattle.jvm_model.specs.{Texts.location_text, Builtin.builtin_count, Linked.Linked, Suite.all_tests, Suite.seq, Suite.is_detected}
 use Rattle.order_law.specs.declared.{edges.Edge.Edge, records.Reach.Reach}
 use Rattle.order_law.specs.{Conflicts.Member, Histories.Touches, Histories.IsTestNumber, OwnRecord.edges_in, OwnRecord.cut, Reach.units_in, Reach.IsReachIn}
 use Rattle.order_law.specs.RecordForm.{are_units, edges_ascend, is_reach, is_place_text}

@@ -1,9 +1,8 @@
 -- The edges of a program's own record, computed from the run of the whole suite in order.
 use Rattle.std.specs.Prelude.{◌≡◌, ℕ, zero, suc, ◌-◌, List, [], ◌∷◌, ◌++◌, map, filter, flat_map, length, take, codes, Bool, true, not, ◌&&◌, cond, nat_lt, nat_le, Some}
 use Rattle.std.specs.List.{range_with_len}
-use Rattle.jvm_model.specs.declared.{values.Location.Location, values.Touch.Touch, program.Program.Program}
-use Rattle.jvm_model.specs.{World.size, World.same, Texts.maker, Texts.location_text, Linked.Linked}
-use Rattle.jvm_model.specs.Suite.{all_tests, Given, runs, is_detected}
+use Rattle.jvm_model.specs.{declared.values.Location.Location, declared.values.Touch.Touch, declared.program.Program.Program, World.size, World.same}
+use Rattle.jvm_model.specs.{Texts.maker, Texts.location_text, Linked.Linked, Suite.all_tests, Suite.Given, Suite.runs, Suite.is_detected}
 use Rattle.order_law.specs.declared.edges.{Edge.Edge, EdgeKind.EdgeKind, EdgeKind.TheVariants.Raw, EdgeKind.TheVariants.Waw, EdgeKind.TheVariants.War}
 use Rattle.order_law.specs.Conflicts.{Tests, Member, IsRecord, Lawful, down}
 use Rattle.order_law.specs.Histories.{after_history, ran_after, Touches, writes_in, exposed_in, touches_of, IsTestNumber, AreSequential}

@@ -1,11 +1,9 @@
 -- Chains and legal histories of claims and posts. A history has its latest event first. Workers are numbered from 1, and
 -- chains from 0 by their places in the list.
 use Rattle.std.specs.Prelude.{◌≡◌, ℕ, ◌<◌, ◌≤◌, List, [], ◌∷◌, ◌++◌, length, get_or, reverse, true, Some, cond, nat_eq}
-use Rattle.jvm_model.specs.declared.{outcome.Outcome.Outcome, program.Program.Program}
-use Rattle.jvm_model.specs.{Suite.last_outcome, Suite.seq, Suite.is_detected, Linked.Linked}
-use Rattle.order_law.specs.declared.edges.Edge.{Edge}
-use Rattle.order_law.specs.Conflicts.{Member, Distinct, Joined, ClosedUnderRaw}
-use Rattle.order_law.specs.{RecordForm.are_chains, Histories.RecordOf, Histories.IsTestNumber, OwnRecord.edges_of}
+use Rattle.jvm_model.specs.{declared.outcome.Outcome.Outcome, declared.program.Program.Program, Suite.last_outcome, Suite.seq, Suite.is_detected, Linked.Linked}
+use Rattle.order_law.specs.{declared.edges.Edge.Edge, Conflicts.Member, Conflicts.Distinct, Conflicts.Joined, Conflicts.ClosedUnderRaw, RecordForm.are_chains}
+use Rattle.order_law.specs.{Histories.RecordOf, Histories.IsTestNumber, OwnRecord.edges_of}
 
 abbrev pub chain_at : List (List ℕ) → ℕ → List ℕ
 chain_at C i = get_or C i []

@@ -2,8 +2,7 @@
 use Rattle.std.specs.Prelude.{◌≡◌, ℕ, ◌<◌, List, [], ◌∷◌, ◌++◌, map, take, codes, decimal, Bool, false, cond, nat_eq, Option, Some, None}
 use Rattle.jvm_model.specs.declared.{values.Location.Location, values.Touch.Touch, program.Program.Program}
 use Rattle.jvm_model.specs.declared.values.Location.TheVariants as place
-use Rattle.jvm_model.specs.World.{World, size, place_of}
-use Rattle.jvm_model.specs.{Suite.Given, Suite.one_test, Linked.Linked, Texts.field_text, Texts.location_text}
+use Rattle.jvm_model.specs.{World.World, World.size, World.place_of, Suite.Given, Suite.one_test, Linked.Linked, Texts.field_text, Texts.location_text}
 use Rattle.order_law.specs.declared.{edges.Edge.Edge, records.Place.Place, records.Shown.Shown}
 use Rattle.order_law.specs.{Conflicts.Member, Histories.Touches, Histories.touches_of, OwnRecord.conflict_places_in, OwnRecord.owner, Pairing.PairedList}
 

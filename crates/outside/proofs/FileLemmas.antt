@@ -2,8 +2,7 @@
 use Rattle.std.proofs.Common.{◌≡◌, ◌<◌, ◌≤◌, ◌+◌, ℕ, suc, true, false, List, [], ◌∷◌, length, drop, get_or, Some, None, refl, ap, sym, ◌∙◌, add-one}
 use Rattle.std.proofs.{Math.Seq.drop-cons, Math.ListN.drop_of_length-le}
 use Rattle.std.specs.Prelude.{Vec, if◌then◌else◌}
-use Rattle.std.specs.Str.{bytes_eq}
-use Rattle.std.specs.declared.alloc.Global.{Global}
+use Rattle.std.specs.{declared.alloc.Global.Global, Str.bytes_eq}
 use Rattle.outside.specs.Depot.{content, files_of}
 
 pub content-hit : (file : List ℕ × List ℕ) (files : List (List ℕ × List ℕ)) (name : List ℕ) → bytes_eq file.0 name ≡ true → content (file ∷ files) name ≡ Some file.1

@@ -2,12 +2,10 @@
 use Rattle.std.proofs.Common.{◌≡◌, ◌+◌, ℕ, List, length, Option, Some, Result, Ok, Err, IfOk, refl, subst}
 use Rattle.std.proofs.lemmas.List.Elements.{All-pop}
 use Rattle.std.specs.Prelude.{All, IsErrOf, Vec}
-use Rattle.std.specs.declared.alloc.Global.{Global}
+use Rattle.std.specs.{declared.alloc.Global.Global, Io.KnownBytes.Consumes}
 use Rattle.outside.specs.Depot.{Answer, Agrees, OfHeld, TellsOn, has_bytes, is_absent, is_longer, answers}
-use Rattle.outside.specs.FolderDepot.{Keeps}
-use Rattle.outside.specs.declared.depot.DepotRefusal.{DepotRefusal}
+use Rattle.outside.specs.{declared.depot.DepotRefusal.DepotRefusal, FolderDepot.Keeps}
 use Rattle.outside.specs.declared.depot.DepotRefusal.TheVariants as refusal
-use Rattle.std.specs.Io.KnownBytes.{Consumes}
 
 -- These bytes were read, and this many more are within the limit.
 pub record Read {F : Type 0} (remaining : F → Option (List ℕ)) (old new : F) (bytes : List ℕ) (limit left : ℕ) : Type 0 where

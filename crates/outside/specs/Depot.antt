@@ -1,7 +1,6 @@
 -- What a depot holds, what it told of that, and how it failed (this project's).
 use Rattle.std.specs.Prelude.{◌≡◌, ◌<◌, ℕ, List, [], ◌∷◌, length, map, All, Option, Some, None, IsSomeAnd, Vec, if◌then◌else◌}
-use Rattle.std.specs.Str.{bytes_eq}
-use Rattle.std.specs.declared.alloc.Global.{Global}
+use Rattle.std.specs.{declared.alloc.Global.Global, Str.bytes_eq}
 use Rattle.outside.specs.Counts.{Rose}
 
 -- names with their bytes; the first of a name counts

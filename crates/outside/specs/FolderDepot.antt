@@ -1,7 +1,6 @@
 -- A real folder as callers see it (this project's).
 use Rattle.std.specs.Prelude.{◌≡◌, ℕ, List, [], ◌∷◌, ◌++◌, Option}
-use Rattle.outside.specs.Depot.{Answer, has_bytes, is_absent, is_longer}
-use Rattle.outside.specs.declared.heard.Heard.{Heard}
+use Rattle.outside.specs.{declared.heard.Heard.Heard, Depot.Answer, Depot.has_bytes, Depot.is_absent, Depot.is_longer}
 use Rattle.outside.specs.declared.heard.Heard.TheVariants as heard
 
 pub record FolderDepotState : Type 0 where

@@ -1,8 +1,7 @@
 //! A real folder as a depot.
 
 ghost use Rattle.std.specs.Prelude.{◌≡◌, ◌<◌, ◌≤◌, ◌++◌, ◌∷◌, [], length, IfOk, IfSome, IsErrOf, string_bytes};
-ghost use Rattle.outside.specs.{Counts.Rose, Counts.raised, FolderDepot.Keeps};
-ghost use Rattle.outside.specs.Depot.{has_bytes, is_absent, is_longer};
+ghost use Rattle.outside.specs.{Counts.Rose, Counts.raised, FolderDepot.Keeps, Depot.has_bytes, Depot.is_absent, Depot.is_longer};
 
 use crate::counts::raise;
 use crate::heard::Heard;

@@ -2,17 +2,14 @@
 -- one stays, and they are beside one another as before.
 use Rattle.std.proofs.Common.{◌≡◌, ◌⊎◌, ℕ, ◌<◌, length, get_or, map, Bool, true, false, not, ◌&&◌, cond, nat_eq, Option, Some, None, is_some, refl, sym, ◌∙◌, ap, subst, inl, inr, arith}
 use Rattle.std.specs.{Str.bytes_eq, List.range_with_len}
-use Rattle.std.proofs.lemmas.{Bool.cases_lt, List.get_or_past}
-use Rattle.std.proofs.{lemmas.List.FromFn.get_or-map-range_with_len, Math.ListN.get_or-map}
+use Rattle.std.proofs.{lemmas.Bool.cases_lt, lemmas.List.get_or_past, lemmas.List.FromFn.get_or-map-range_with_len, Math.ListN.get_or-map}
 use Rattle.jvm_model.specs.declared.values.{Value.Value, Value.TheVariants.Null, InitState.TheVariants.Idle, InitState.TheVariants.Done, Location.Location}
 use Rattle.jvm_model.specs.declared.values.Location.TheVariants as place
-use Rattle.jvm_model.specs.declared.program.{ClassRec.ClassRec, FieldRec.FieldRec, Program.Program}
+use Rattle.jvm_model.specs.{declared.program.ClassRec.ClassRec, declared.program.FieldRec.FieldRec, declared.program.Program.Program, Suite.opening}
 use Rattle.jvm_model.specs.World.{World, no_object, text_or_empty, Content, at, size, look}
 use Rattle.jvm_model.specs.Classes.{no_class, no_field, class_at, field_at, is_trivial, declares_start}
-use Rattle.jvm_model.specs.Suite.{opening}
 use Rattle.quiet_init.specs.Quiet.{is_quiet, left_by_start, left_by, quiet_field, quiet}
-use Rattle.quiet_init.proofs.{Parts.field_count, Parts.starts_kept, Trivials.declares_none}
-use Rattle.quiet_init.proofs.Going.{Hushed, hushed, Fresh, Went}
+use Rattle.quiet_init.proofs.{Parts.field_count, Parts.starts_kept, Trivials.declares_none, Going.Hushed, Going.hushed, Going.Fresh, Going.Went}
 
 abbrev pub IsHushed : Program → ℕ → Type 0
 IsHushed p c = (is_trivial p c ≡ false) × (is_trivial (quiet p) c ≡ true)

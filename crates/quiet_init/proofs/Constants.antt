@@ -7,11 +7,10 @@ use Rattle.et_base.specs.Names.{is_field_descriptor}
 use Rattle.et_base.proofs.Texts.{units_true, units_same}
 use Rattle.class_pool.specs.NamesGrammar.{IsElement}
 use Rattle.class_pool.proofs.NamesSpelled.{field_taken}
-use Rattle.jvm_model.specs.declared.{values.Value.Value, program.ClassRec.ClassRec, program.Program.Program}
+use Rattle.jvm_model.specs.{declared.values.Value.Value, declared.program.ClassRec.ClassRec, declared.program.Program.Program, World.World, World.size}
 use Rattle.jvm_model.specs.declared.values.Value.TheVariants as value
 use Rattle.jvm_model.specs.declared.values.Kind.TheVariants as kind
-use Rattle.jvm_model.specs.{World.World, World.size, Library.builtin_defs, Library.builtin_classes, Rows.constant_kind}
-use Rattle.jvm_model.specs.Builtin.{object_class, string_class, stream_class}
+use Rattle.jvm_model.specs.{Library.builtin_defs, Library.builtin_classes, Rows.constant_kind, Builtin.object_class, Builtin.string_class, Builtin.stream_class}
 use Rattle.jvm_model.specs.Classes.{no_class, class_at, is_below, is_interface, member, upwards}
 use Rattle.jvm_model.specs.Linked.{Linked, IsClass, is_interface_at, class_descriptor, takes, opens}
 use Rattle.jvm_model.proofs.BuiltinRules.{builtin_class}
@@ -20,8 +19,7 @@ use Rattle.type_frames.specs.Assign.{class_named, takes_any, extends, class_fits
 use Rattle.type_frames.specs.Descriptors.{types_of, class_name, name_of}
 use Rattle.type_frames.specs.TypedState.{IsInstance, IsReferenceOf, IsDeclared}
 use Rattle.type_frames.proofs.AssignLaws.{first_named}
-use Rattle.check_sound.proofs.{Instances.plain_name, KindNames.class_within}
-use Rattle.check_sound.proofs.Thrown.{builtin_is, object_named, under_object}
+use Rattle.check_sound.proofs.{Instances.plain_name, KindNames.class_within, Thrown.builtin_is, Thrown.object_named, Thrown.under_object}
 
 -- ---- texts
 

@@ -2,8 +2,7 @@
 use Rattle.std.proofs.Common.{◌≡◌, List, [], ◌∷◌, ◌++◌, ℕ, Bool, true, false, ◌&&◌, ◌||◌, refl, sym, ◌∙◌, ap}
 use Rattle.std.specs.List.{list_all}
 use Rattle.std.proofs.lemmas.Bool.{and_parts}
-use Rattle.jvm_model.specs.declared.program.{Placed.Placed, Program.Program}
-use Rattle.jvm_model.specs.{World.World, Access.run, Entries.Entries, Step.row}
+use Rattle.jvm_model.specs.{declared.program.Placed.Placed, declared.program.Program.Program, World.World, Access.run, Entries.Entries, Step.row}
 use Rattle.quiet_init.specs.Leaving.{before_end}
 use Rattle.quiet_init.specs.Quiet.{is_calm, is_own, is_end, is_still, goes_with, left_after}
 use Rattle.quiet_init.proofs.Still.{end_world}

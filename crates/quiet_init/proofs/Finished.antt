@@ -1,13 +1,10 @@
 -- The program that is put together is the one without quiet initialisers.
 use Rattle.std.proofs.Common.{◌≡◌, ℕ, ◌<◌, List, length, get_or, map, Bool, true, false, ◌&&◌, cond, nat_lt, None, sym, ◌∙◌, ap, arith}
 use Rattle.std.specs.List.{range_with_len}
-use Rattle.std.proofs.lemmas.Bool.{lt-ltb}
-use Rattle.std.proofs.lemmas.List.FromFn.{get_or-map-range_with_len, length-map-range_with_len, fill_by_all}
-use Rattle.jvm_model.specs.declared.program.{ClassRec.ClassRec, FieldRec.FieldRec, Program.Program}
+use Rattle.std.proofs.lemmas.{Bool.lt-ltb, List.FromFn.get_or-map-range_with_len, List.FromFn.length-map-range_with_len, List.FromFn.fill_by_all}
+use Rattle.jvm_model.specs.declared.{program.ClassRec.ClassRec, program.FieldRec.FieldRec, program.Program.Program, values.Value.Value}
 use Rattle.jvm_model.specs.declared.values.Location.TheVariants as place
-use Rattle.jvm_model.specs.declared.values.{Value.Value, Value.TheVariants.Null}
-use Rattle.jvm_model.specs.{World.World, World.at, Linked.Linked}
-use Rattle.jvm_model.specs.Classes.{no_field, class_at, field_at}
+use Rattle.jvm_model.specs.{declared.values.Value.TheVariants.Null, World.World, World.at, Linked.Linked, Classes.no_field, Classes.class_at, Classes.field_at}
 use Rattle.quiet_init.specs.Leaving.{AreLeft, AreFlags, AreOpenings, unstarted, opened_with}
 use Rattle.quiet_init.specs.Quiet.{is_quiet, left_by, quiet_class, quiet_field, quiet}
 use Rattle.quiet_init.proofs.Lists.{quiet_listed, as_many}

@@ -5,19 +5,17 @@ use Rattle.std.proofs.lemmas.Bool.{cases_Bool, eqb-true, eq-eqb}
 use Rattle.jvm_model.specs.declared.values.{Value.TheVariants.Obj, Head.Head, InitState.InitState}
 use Rattle.jvm_model.specs.declared.values.InitState.TheVariants.{Idle, Running, Done, Erroneous}
 use Rattle.jvm_model.specs.declared.values.Location.TheVariants as place
-use Rattle.jvm_model.specs.declared.outcome.Next.TheVariants.{Go, Fault}
-use Rattle.jvm_model.specs.declared.state.{EntryKind.EntryKind, EntryKind.TheVariants.InMethod, EntryKind.TheVariants.InClass}
-use Rattle.jvm_model.specs.declared.program.{Body.Body, Program.Program}
+use Rattle.jvm_model.specs.declared.{outcome.Next.TheVariants.Go, outcome.Next.TheVariants.Fault, state.EntryKind.EntryKind}
+use Rattle.jvm_model.specs.declared.{state.EntryKind.TheVariants.InMethod, state.EntryKind.TheVariants.InClass, program.Body.Body, program.Program.Program}
+use Rattle.jvm_model.specs.{Builtin.stack_overflow_error, Kinds.class_of, Linked.IsBody, Step.after_row, Suite.opening, Throwing.throws}
 use Rattle.jvm_model.specs.World.{World, size, at, put, object_at, make_object}
 use Rattle.jvm_model.specs.Access.{Access, done, write, spend, Ran, run}
-use Rattle.jvm_model.specs.{Builtin.stack_overflow_error, Kinds.class_of, Linked.IsBody, Step.after_row, Suite.opening, Throwing.throws}
+use Rattle.jvm_model.specs.{Reached.thrown_after, Reached.thrown_itself, Reached.Overflows, Rows.Answer, Rows.answer, Rows.faults}
 use Rattle.jvm_model.specs.Classes.{class_at, field_at, method_at, is_trivial, blank, instance_head}
 use Rattle.jvm_model.specs.Entries.{Entries, all_entries, entries_of, frame_of, frame_cost, class_entry, with_entry, is_full, popped_entry}
 use Rattle.jvm_model.specs.Initialise.{Part, parts_of, with_entered, starts_body, starts, looked_at, looks, finishing, row_finish}
-use Rattle.jvm_model.specs.{Reached.thrown_after, Reached.thrown_itself, Reached.Overflows, Rows.Answer, Rows.answer, Rows.faults}
 use Rattle.jvm_model.specs.State.{State, Turn, next, raised_in, with_entries}
-use Rattle.jvm_model.proofs.{Binds.run_bind, Steps.step_finishes}
-use Rattle.jvm_model.proofs.Locations.{at_put_same, at_put_other, same_false, at_make_new}
+use Rattle.jvm_model.proofs.{Binds.run_bind, Steps.step_finishes, Locations.at_put_same, Locations.at_put_other, Locations.same_false, Locations.at_make_new}
 use Rattle.quiet_init.specs.Quiet.{is_still, begun_world, left_by, left_by_start, quiet}
 use Rattle.quiet_init.specs.StillLaw.{Leads, there, one_more, HaveRows, HasOwn, OwnAlone}
 use Rattle.quiet_init.proofs.Still.{Twin, rows_alike}

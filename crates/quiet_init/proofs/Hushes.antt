@@ -3,10 +3,9 @@
 use Rattle.std.proofs.Common.{◌≡◌, ◌⊎◌, ℕ, zero, suc, ◌≤◌, List, [], ◌∷◌, ◌++◌, length, map, filter, Bool, true, false, not, ◌&&◌, cond, Option, Some, None, is_some, refl, sym, ◌∙◌, ap, subst, inl, inr, arith}
 use Rattle.std.specs.List.{list_all}
 use Rattle.std.proofs.lemmas.Bool.{and_parts, cases_Bool}
-use Rattle.jvm_model.specs.declared.program.{Body.Body, Program.Program}
+use Rattle.jvm_model.specs.{declared.program.Body.Body, declared.program.Program.Program, Entries.entries_of, Entries.frame_of}
 use Rattle.jvm_model.specs.Classes.{class_at, method_at, is_interface, is_trivial, default_interfaces, upwards, class_bound, declares_start}
-use Rattle.jvm_model.specs.{Entries.entries_of, Entries.frame_of, Initialise.Part, Initialise.superclass_part, Initialise.parts_of}
-use Rattle.jvm_model.specs.Linked.{Linked, IsClass, IsBody}
+use Rattle.jvm_model.specs.{Initialise.Part, Initialise.superclass_part, Initialise.parts_of, Linked.Linked, Linked.IsClass, Linked.IsBody}
 use Rattle.jvm_model.proofs.Upwards.{upwards_step}
 use Rattle.quiet_init.specs.Quiet.{is_still, no_handler, is_still_body, starts_still, is_still_start, is_quiet, begun_world, quiet}
 use Rattle.quiet_init.specs.StillLaw.{HaveRows}

@@ -1,7 +1,6 @@
 -- In a typed program each class that isn't trivial, and is so without quiet initialisers, is hushed.
 use Rattle.std.proofs.Common.{◌≡◌, ℕ, true, false}
-use Rattle.jvm_model.specs.declared.program.Program.{Program}
-use Rattle.jvm_model.specs.Classes.{is_trivial}
+use Rattle.jvm_model.specs.{declared.program.Program.Program, Classes.is_trivial}
 use Rattle.type_frames.specs.Typing.{IsTyped}
 use Rattle.quiet_init.specs.Quiet.{quiet}
 use Rattle.quiet_init.proofs.{Going.Hushed, Hushes.hushes, Sounds.sound, Walk.left_law}

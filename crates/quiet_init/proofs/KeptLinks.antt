@@ -5,15 +5,14 @@ use Rattle.et_base.specs.Names.{is_unqualified, is_class_name, is_field_descript
 use Rattle.std.proofs.lemmas.Bool.{and_parts, cases_Bool, ltb-true}
 use Rattle.jvm_model.specs.declared.{instr.Instr.Instr, program.Body.Body, program.ClassRec.ClassRec, program.Program.Program, program.TestEntry.TestEntry}
 use Rattle.jvm_model.specs.declared.instr.Instr.TheVariants as form
-use Rattle.jvm_model.specs.declared.values.{Base.Base, Kind.Kind, Value.Value}
+use Rattle.jvm_model.specs.{declared.values.Base.Base, declared.values.Kind.Kind, declared.values.Value.Value, World.at, Lookup.lacks_method, Lookup.find_field}
 use Rattle.jvm_model.specs.declared.values.Base.TheVariants as base
 use Rattle.jvm_model.specs.declared.values.Kind.TheVariants as kind
 use Rattle.jvm_model.specs.declared.values.Location.TheVariants as place
 use Rattle.jvm_model.specs.declared.values.Value.TheVariants as value
-use Rattle.jvm_model.specs.{World.at, Lookup.lacks_method, Lookup.find_field, Selection.named_class}
-use Rattle.jvm_model.specs.Builtin.{builtin_count, object_class, throwable_class}
-use Rattle.jvm_model.specs.Classes.{no_class, no_field, class_at, field_at, method_at, is_static, is_abstract, is_interface, member}
+use Rattle.jvm_model.specs.{Selection.named_class, Builtin.builtin_count, Builtin.object_class, Builtin.throwable_class}
 use Rattle.jvm_model.specs.Library.{builtin_defs, builtin_classes, builtin_fields}
+use Rattle.jvm_model.specs.Classes.{no_class, no_field, class_at, field_at, method_at, is_static, is_abstract, is_interface, member}
 use Rattle.jvm_model.specs.Linked.{IsClass, IsField, IsMethod, IsBase, IsKind, IsArray, HoldsBuiltins, NamesClass, NamesForm, NamesBody, NamesEntries, IsDirect, IsAncestor, IsClassKind, IsStaticMethod, IsPlainMethod, IsFormKind, IsBodyKind, HasKinds, IsDistinct, count, IsInitialiser, IsListed, IsFormFound, FindsMembers, IsTest, Linked, is_word}
 use Rattle.jvm_model.proofs.BuiltinRules.{class_keeps, field_keeps}
 use Rattle.type_frames.specs.Typing.{IsTyped}

@@ -1,9 +1,8 @@
 -- Steps that lead from one state to another, as the first part of a run of a whole test.
 use Rattle.std.proofs.Common.{◌≡◌, ℕ, zero, suc, ◌+◌, ◌≤◌, true, refl, sym, ◌∙◌, ap, subst, arith}
 use Rattle.std.proofs.lemmas.Bool.{and_parts}
-use Rattle.jvm_model.specs.declared.program.Program.{Program}
-use Rattle.jvm_model.specs.{World.World, Access.Ran, Access.run, Step.step, Step.turn}
-use Rattle.jvm_model.specs.{State.State, State.Turn, State.next, Suite.End, Suite.after_step, Suite.whole}
+use Rattle.jvm_model.specs.{declared.program.Program.Program, World.World, Access.Ran, Access.run, Step.step, Step.turn, State.State, State.Turn, State.next}
+use Rattle.jvm_model.specs.Suite.{End, after_step, whole}
 use Rattle.jvm_model.proofs.Binds.{run_bind}
 use Rattle.quiet_init.specs.StillLaw.{Leads, there, one_more}
 

@@ -1,21 +1,19 @@
 -- What quiet initialisers leave, computed in one memory.
 use Rattle.std.proofs.Common.{◌≡◌, ◌≢◌, ℕ, suc, ◌+◌, ◌<◌, ◌≤◌, List, [], ◌∷◌, ◌++◌, length, Bool, true, false, ◌&&◌, ◌||◌, cond, nat_eq, nat_lt, Option, Some, IfSome, refl, sym, ◌∙◌, ap, subst, inl, inr, All, arith}
 use Rattle.std.proofs.lemmas.Bool.{and_parts, or_cases, eqb-true, eq-eqb, cases_Bool, cases_lt, lt-ltb, le-ltb, ltb-true}
-use Rattle.std.proofs.lemmas.List.{get_or_past}
-use Rattle.std.proofs.Math.ListN.{get_or-map, length-map}
+use Rattle.std.proofs.{lemmas.List.get_or_past, Math.ListN.get_or-map, Math.ListN.length-map}
 use Rattle.jvm_model.specs.declared.values.{InitState.TheVariants.Idle, InitState.TheVariants.Running, Value.Value, Value.TheVariants.Null}
 use Rattle.jvm_model.specs.declared.values.Location.TheVariants as place
-use Rattle.jvm_model.specs.declared.{outcome.Next.Next, instr.Instr.Instr}
+use Rattle.jvm_model.specs.declared.{outcome.Next.Next, instr.Instr.Instr, program.Body.Body, program.ClassRec.ClassRec, program.FieldRec.FieldRec}
 use Rattle.jvm_model.specs.declared.outcome.Next.TheVariants.{Go, Fault, Raise, Enter, Leave, Over}
 use Rattle.jvm_model.specs.declared.instr.Instr.TheVariants as form
-use Rattle.jvm_model.specs.declared.program.{Body.Body, ClassRec.ClassRec, FieldRec.FieldRec, Placed.Placed, Program.Program}
-use Rattle.jvm_model.specs.{World.World, World.at, World.put, Linked.IsMethod, Linked.NamesForm, Linked.NamesBody, Linked.NamesEntries}
+use Rattle.jvm_model.specs.{declared.program.Placed.Placed, declared.program.Program.Program, World.World, World.at, World.put}
+use Rattle.jvm_model.specs.{Linked.IsMethod, Linked.NamesForm, Linked.NamesBody, Linked.NamesEntries, Narrow.narrowed, Step.row, Suite.opening}
 use Rattle.jvm_model.specs.Access.{Access, done, write, read_of, Ran, run}
 use Rattle.jvm_model.specs.Classes.{no_field, class_at, field_at, method_at, is_trivial, next_place}
 use Rattle.jvm_model.specs.Entries.{Entry, Entries, no_entries, with_entry, entries_of, popped_entry, with_stack, with_place}
-use Rattle.jvm_model.specs.{Narrow.narrowed, Step.row, Suite.opening}
-use Rattle.jvm_model.specs.Rows.{Answer, answer, stuck_row, goes_on, popping}
 use Rattle.jvm_model.specs.RowsStatics.{read_static, write_static, row_statics}
+use Rattle.jvm_model.specs.Rows.{Answer, answer, stuck_row, goes_on, popping}
 use Rattle.jvm_model.specs.View.{IsSafe, IsRow, counted, ended, paid, counts_one, outcome}
 use Rattle.jvm_model.proofs.{Ranges.length_put_at, Locations.at_put_same}
 use Rattle.type_frames.specs.Typing.{IsTyped}

@@ -4,8 +4,7 @@ use Rattle.std.specs.List.{range_with_len}
 use Rattle.std.proofs.lemmas.Bool.{and_parts, cases_Bool, cases_lt, lt-ltb, le-ltb, eq-eqb}
 use Rattle.std.proofs.lemmas.List.{get_or_past}
 use Rattle.std.proofs.lemmas.List.FromFn.{get_or-map-range_with_len, length-map-range_with_len, map-range_with_len_more, fill_by_all, filter_of_map_range_with_len_more}
-use Rattle.jvm_model.specs.declared.program.{ClassRec.ClassRec, Program.Program}
-use Rattle.jvm_model.specs.Classes.{no_class}
+use Rattle.jvm_model.specs.{declared.program.ClassRec.ClassRec, declared.program.Program.Program, Classes.no_class}
 use Rattle.quiet_init.specs.{Quiet.is_still_start, Quiet.starts_still, Quiet.is_quiet, Quiet.quiet_classes, Starts.AreStill}
 
 -- the number below the next one

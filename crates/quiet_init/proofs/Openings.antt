@@ -1,8 +1,7 @@
 -- The program without quiet initialisers has openings by their types.
 use Rattle.std.proofs.Common.{◌≡◌, ◌≢◌, ℕ, suc, ◌+◌, ◌<◌, List, [], ◌∷◌, length, get_or, map, codes, All, Bool, true, false, ◌&&◌, ◌||◌, cond, nat_eq, nat_le, Option, Some, None, IfSome, refl, sym, ◌∙◌, ap, subst, inl, inr, arith}
 use Rattle.std.specs.{List.list_any, List.range_with_len, Str.bytes_eq}
-use Rattle.std.proofs.lemmas.Bool.{and_parts, or_cases, eqb-true}
-use Rattle.std.proofs.Math.ListN.{get_or-map}
+use Rattle.std.proofs.{lemmas.Bool.and_parts, lemmas.Bool.or_cases, lemmas.Bool.eqb-true, Math.ListN.get_or-map}
 use Rattle.jvm_model.specs.declared.{values.Value.Value, values.InitState.TheVariants.Running, instr.Instr.Instr}
 use Rattle.jvm_model.specs.declared.values.Value.TheVariants as value
 use Rattle.jvm_model.specs.declared.values.Location.TheVariants as place

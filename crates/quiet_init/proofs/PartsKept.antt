@@ -1,7 +1,6 @@
 -- The parts of a class without quiet initialisers: those that were, the hushed ones left out.
 use Rattle.std.proofs.Common.{◌≡◌, ℕ, List, [], ◌∷◌, ◌++◌, map, filter, Bool, true, false, not, cond, Option, refl, sym, ◌∙◌, ap}
-use Rattle.jvm_model.specs.declared.program.Program.{Program}
-use Rattle.jvm_model.specs.Classes.{class_at, is_interface, is_trivial, default_interfaces}
+use Rattle.jvm_model.specs.{declared.program.Program.Program, Classes.class_at, Classes.is_interface, Classes.is_trivial, Classes.default_interfaces}
 use Rattle.jvm_model.specs.Initialise.{Part, superclass_part, parts_of}
 use Rattle.quiet_init.specs.Quiet.{quiet}
 use Rattle.quiet_init.proofs.{Parts.flags_kept, Parts.above_kept, Parts.defaults_kept, Trivials.trivial_kept}

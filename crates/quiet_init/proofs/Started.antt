@@ -1,16 +1,15 @@
 -- A quiet class whose parts are done, from its entry to its end.
 use Rattle.std.proofs.Common.{◌≡◌, ◌⊎◌, ℕ, zero, suc, ◌+◌, List, [], ◌∷◌, ◌++◌, length, Bool, true, false, cond, Option, Some, None, refl, sym, ◌∙◌, ap, subst, inl, inr, arith, append-nil}
-use Rattle.jvm_model.specs.declared.values.{InitState.InitState, InitState.TheVariants.Running, InitState.TheVariants.Done}
+use Rattle.jvm_model.specs.declared.values.InitState.{InitState, TheVariants.Running, TheVariants.Done}
 use Rattle.jvm_model.specs.declared.values.Location.TheVariants as place
-use Rattle.jvm_model.specs.declared.outcome.Next.TheVariants.{Go}
-use Rattle.jvm_model.specs.declared.state.{EntryKind.EntryKind, EntryKind.TheVariants.Absent, EntryKind.TheVariants.InMethod, EntryKind.TheVariants.InClass}
-use Rattle.jvm_model.specs.declared.program.{Body.Body, Program.Program}
-use Rattle.jvm_model.specs.{World.World, World.at, World.put, Classes.class_at, Classes.method_at, Classes.is_trivial, Rows.Answer, Rows.answer, Rows.faults}
+use Rattle.jvm_model.specs.declared.{outcome.Next.TheVariants.Go, state.EntryKind.EntryKind}
+use Rattle.jvm_model.specs.declared.state.EntryKind.TheVariants.{Absent, InMethod, InClass}
+use Rattle.jvm_model.specs.{declared.program.Body.Body, declared.program.Program.Program, World.World, World.at, World.put}
+use Rattle.jvm_model.specs.{Classes.class_at, Classes.method_at, Classes.is_trivial, Rows.Answer, Rows.answer, Rows.faults, Builtin.stack_overflow_error}
 use Rattle.jvm_model.specs.Access.{Access, done, spend, Ran, run}
-use Rattle.jvm_model.specs.{Builtin.stack_overflow_error, Linked.IsBody}
+use Rattle.jvm_model.specs.{Linked.IsBody, State.State, State.Turn, State.next, State.with_entries, Step.after_row, Step.step, Step.turn}
 use Rattle.jvm_model.specs.Entries.{Entries, entries_of, frame_of, frame_cost, with_entry, is_full, popped_entry}
 use Rattle.jvm_model.specs.Initialise.{Part, parts_of, with_entered, starts_body, starts, looked_at, looks, left_at, finishing, row_finish}
-use Rattle.jvm_model.specs.{State.State, State.Turn, State.next, State.with_entries, Step.after_row, Step.step, Step.turn}
 use Rattle.jvm_model.proofs.{Binds.run_bind, Steps.step_finishes}
 use Rattle.quiet_init.specs.Quiet.{is_still, begun_world, left_by}
 use Rattle.quiet_init.specs.StillLaw.{Leads, there, one_more, HaveRows, HasOwn, OwnAlone}

@@ -5,9 +5,9 @@ use Rattle.std.proofs.lemmas.Bool.{and_parts, or_cases, eqb-true, cases_Bool}
 use Rattle.jvm_model.specs.declared.values.{Value.Value, InitState.InitState, InitState.TheVariants.Running, Touch.Touch}
 use Rattle.jvm_model.specs.declared.values.Value.TheVariants as value
 use Rattle.jvm_model.specs.declared.values.Location.TheVariants as place
-use Rattle.jvm_model.specs.declared.outcome.Next.TheVariants.{Go}
-use Rattle.jvm_model.specs.declared.state.{EntryKind.EntryKind, EntryKind.TheVariants.Absent, EntryKind.TheVariants.InMethod, EntryKind.TheVariants.InClass}
-use Rattle.jvm_model.specs.declared.{instr.Op.Op, instr.Conv.Conv, instr.Instr.Instr, program.Placed.Placed, program.Program.Program}
+use Rattle.jvm_model.specs.declared.{outcome.Next.TheVariants.Go, state.EntryKind.EntryKind}
+use Rattle.jvm_model.specs.declared.{state.EntryKind.TheVariants.Absent, state.EntryKind.TheVariants.InMethod, state.EntryKind.TheVariants.InClass, instr.Op.Op}
+use Rattle.jvm_model.specs.declared.{instr.Conv.Conv, instr.Instr.Instr, program.Placed.Placed, program.Program.Program}
 use Rattle.jvm_model.specs.declared.instr.Conv.TheVariants as conv
 use Rattle.jvm_model.specs.declared.instr.Instr.TheVariants as form
 use Rattle.jvm_model.specs.{World.World, World.at, World.put, Classes.field_at, Classes.is_trivial, Classes.next_place}
@@ -17,8 +17,7 @@ use Rattle.jvm_model.specs.Rows.{Answer, answer, stuck_row, none_here, goes_on, 
 use Rattle.jvm_model.specs.RowsMoves.{is_long, two_under_long, two_under_two, row_moves}
 use Rattle.jvm_model.specs.RowsArith.{divides, shifts, unless_zero, two_ints, two_longs, converted, row_arith}
 use Rattle.jvm_model.specs.RowsStatics.{read_static, write_static, row_statics}
-use Rattle.jvm_model.specs.RowsReturn.{handed_on, hands_on, row_return}
-use Rattle.jvm_model.specs.{Step.row, Narrow.narrowed}
+use Rattle.jvm_model.specs.{RowsReturn.handed_on, RowsReturn.hands_on, RowsReturn.row_return, Step.row, Narrow.narrowed}
 use Rattle.jvm_model.proofs.Locations.{same_false, at_put_same, at_put_other}
 use Rattle.quiet_init.specs.Quiet.{is_calm, is_own, is_end, is_still, goes_with, left_after}
 use Rattle.quiet_init.specs.StillLaw.{HasOwn, OwnAlone, HaveRows}

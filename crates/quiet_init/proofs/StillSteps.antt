@@ -1,19 +1,17 @@
 -- The machine's steps at the code of a quiet initialiser, and the law.
 use Rattle.std.proofs.Common.{◌≡◌, ◌≢◌, ℕ, zero, suc, ◌+◌, ◌<◌, List, [], ◌∷◌, length, get_or, drop, true, false, ◌||◌, Option, Some, None, refl, sym, ◌∙◌, ap, subst, arith}
 use Rattle.std.proofs.lemmas.Bool.{and_parts}
-use Rattle.jvm_model.specs.declared.{values.Value.Value, values.InitState.TheVariants.Running, outcome.Next.TheVariants.Go}
+use Rattle.jvm_model.specs.declared.{values.Value.Value, values.InitState.TheVariants.Running, outcome.Next.TheVariants.Go, state.EntryKind.EntryKind}
 use Rattle.jvm_model.specs.declared.values.Location.TheVariants as place
-use Rattle.jvm_model.specs.declared.{state.EntryKind.EntryKind, state.EntryKind.TheVariants.InMethod, state.EntryKind.TheVariants.InClass, instr.Instr.Instr}
+use Rattle.jvm_model.specs.declared.{state.EntryKind.TheVariants.InMethod, state.EntryKind.TheVariants.InClass, instr.Instr.Instr, program.Body.Body}
 use Rattle.jvm_model.specs.declared.instr.Instr.TheVariants as form
-use Rattle.jvm_model.specs.declared.program.{Body.Body, Placed.Placed, Program.Program}
-use Rattle.jvm_model.specs.{World.World, World.at, Linked.Ascends, Suite.opening}
-use Rattle.jvm_model.specs.Access.{Access, spend, bind, Ran, run}
+use Rattle.jvm_model.specs.{declared.program.Placed.Placed, declared.program.Program.Program, World.World, World.at, Linked.Ascends, Suite.opening}
 use Rattle.jvm_model.specs.Classes.{method_at, is_trivial, form_at, next_place}
+use Rattle.jvm_model.specs.Access.{Access, spend, bind, Ran, run}
 use Rattle.jvm_model.specs.{Entries.Entry, Entries.Entries, Entries.entries_of, Entries.frame_of, Rows.Answer, Rows.answer, Rows.stuck_row}
 use Rattle.jvm_model.specs.{RowsReturn.handed_on, RowsReturn.hands_on, RowsReturn.row_return, State.State, State.Turn, State.next, State.with_entries}
 use Rattle.jvm_model.specs.Step.{row, row_or_none, row_here, after_row, step, turn}
-use Rattle.jvm_model.proofs.{Binds.run_bind, Locations.at_put_same, Steps.step_runs}
-use Rattle.jvm_model.proofs.Places.{form_at_index, next_place_index, place_beyond_next}
+use Rattle.jvm_model.proofs.{Binds.run_bind, Locations.at_put_same, Steps.step_runs, Places.form_at_index, Places.next_place_index, Places.place_beyond_next}
 use Rattle.quiet_init.specs.Quiet.{is_calm, is_own, is_end, is_still, goes_with, left_after, left_by_start, left_by_body, begun_world, left_by}
 use Rattle.quiet_init.specs.StillLaw.{Leads, there, one_more, HaveRows, HasOwn, StillLaw}
 use Rattle.quiet_init.proofs.Still.{moved, Met, met_go, met_stuck, Twin, still_row, LeftAlike, code_alike}

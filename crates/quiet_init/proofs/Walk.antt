@@ -6,10 +6,9 @@ use Rattle.jvm_model.specs.declared.{values.InitState.TheVariants.Running, state
 use Rattle.jvm_model.specs.declared.values.Location.TheVariants as place
 use Rattle.jvm_model.specs.declared.{instr.Instr.Instr, program.Body.Body, program.Placed.Placed, program.Program.Program}
 use Rattle.jvm_model.specs.declared.instr.Instr.TheVariants as form
-use Rattle.jvm_model.specs.{World.World, World.Object, World.at, World.size, Entries.Entries, Entries.entries_of, Entries.frame_of}
-use Rattle.jvm_model.specs.{Access.run, Suite.opening}
-use Rattle.jvm_model.specs.Classes.{class_at, field_at, method_at, is_trivial, form_at, next_place}
+use Rattle.jvm_model.specs.{World.World, World.Object, World.at, World.size, Entries.Entries, Entries.entries_of, Entries.frame_of, Access.run, Suite.opening}
 use Rattle.jvm_model.specs.{Linked.Ascends, Linked.IsInitialiser, Linked.IsBody, Rows.Answer, Rows.answer, Rows.stuck_row}
+use Rattle.jvm_model.specs.Classes.{class_at, field_at, method_at, is_trivial, form_at, next_place}
 use Rattle.jvm_model.specs.Step.{row, row_or_none, row_here}
 use Rattle.jvm_model.proofs.{Locations.at_put_same, Places.form_at_index}
 use Rattle.type_frames.specs.{Typing.IsTyped, TypedState.TypedWorld}
@@ -19,9 +18,8 @@ use Rattle.check_sound.proofs.{Arguments.entered_frame, DriverRows.enters_static
 use Rattle.check_sound.proofs.AllGroups.{groups}
 use Rattle.quiet_init.specs.Quiet.{is_calm, is_own, is_still, no_handler, is_still_body, starts_still, is_still_start, is_quiet, goes_with, left_after, begun_world, left_by_start, left_by_body, left_by}
 use Rattle.quiet_init.specs.{StillLaw.HaveRows, Opens.LeavesTyped, Opens.LeftLaw}
-use Rattle.quiet_init.proofs.Still.{moved, still_row, end_world, end_row}
+use Rattle.quiet_init.proofs.{Still.moved, Still.still_row, Still.end_world, Still.end_row, Trivials.quiet_loud, Sounds.bodies, Constants.declared_opens}
 use Rattle.quiet_init.proofs.StillSteps.{drop_first, drop_more, drop_within, left_operands, first_place, starts_at, next_is}
-use Rattle.quiet_init.proofs.{Trivials.quiet_loud, Sounds.bodies, Constants.declared_opens}
 
 -- each instruction stands ready at the top of its entries, in a frame of the method
 abbrev pub AllReady : Program → ℕ → List Placed → Entries → World → Type 0

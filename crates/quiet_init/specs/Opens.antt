@@ -1,9 +1,8 @@
 -- What quiet initialisers leave is typed (JVMS 4.10.1).
 use Rattle.std.specs.Prelude.{◌≡◌, ℕ, [], ◌∷◌, true, Some}
 use Rattle.jvm_model.specs.declared.values.Location.TheVariants as place
-use Rattle.jvm_model.specs.declared.program.{Body.Body, Program.Program}
-use Rattle.jvm_model.specs.{World.at, Entries.entries_of, Entries.frame_of, Linked.IsField, Linked.opens}
-use Rattle.jvm_model.specs.Classes.{class_at, field_at, method_at}
+use Rattle.jvm_model.specs.{declared.program.Body.Body, declared.program.Program.Program, World.at, Entries.entries_of, Entries.frame_of}
+use Rattle.jvm_model.specs.{Linked.IsField, Linked.opens, Classes.class_at, Classes.field_at, Classes.method_at}
 use Rattle.type_frames.specs.{Typing.IsTyped, TypedState.TypedWorld}
 use Rattle.quiet_init.specs.{Quiet.is_quiet, Quiet.begun_world, Quiet.left_by, StillLaw.HaveRows}
 

@@ -1,7 +1,6 @@
 -- The text of the quiet classes of a program (this project's).
 use Rattle.std.specs.Prelude.{ℕ, List, [], ◌∷◌, ◌++◌, codes}
-use Rattle.jvm_model.specs.declared.program.Program.{Program}
-use Rattle.jvm_model.specs.Texts.{class_text}
+use Rattle.jvm_model.specs.{declared.program.Program.Program, Texts.class_text}
 use Rattle.quiet_init.specs.Quiet.{quiet_classes}
 
 -- `class NAME`

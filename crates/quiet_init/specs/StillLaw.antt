@@ -1,9 +1,8 @@
 -- What the machine does at the code of a quiet initialiser (JVMS 5.5 and 6.5).
 use Rattle.std.specs.Prelude.{◌≡◌, ◌≢◌, ℕ, suc, List, [], ◌∷◌, length, true, false, Some, None}
-use Rattle.jvm_model.specs.declared.{values.InitState.TheVariants.Running, state.EntryKind.TheVariants.InClass}
+use Rattle.jvm_model.specs.declared.{values.InitState.TheVariants.Running, state.EntryKind.TheVariants.InClass, program.Body.Body, program.Placed.Placed}
 use Rattle.jvm_model.specs.declared.values.Location.TheVariants as place
-use Rattle.jvm_model.specs.declared.program.{Body.Body, Placed.Placed, Program.Program}
-use Rattle.jvm_model.specs.{World.World, World.at, Access.run, Linked.IsBody, Rows.stuck_row, State.State, State.next}
+use Rattle.jvm_model.specs.{declared.program.Program.Program, World.World, World.at, Access.run, Linked.IsBody, Rows.stuck_row, State.State, State.next}
 use Rattle.jvm_model.specs.Classes.{class_at, field_at, method_at, is_trivial}
 use Rattle.jvm_model.specs.{Entries.Entry, Entries.Entries, Entries.entries_of, Entries.frame_of, Step.row, Step.step, Step.turn}
 use Rattle.quiet_init.specs.Quiet.{is_still, goes_with, begun_world, left_by}

@@ -2,9 +2,8 @@
 
 ghost use Rattle.std.specs.Prelude.{◌≡◌, IfOk};
 ghost use Rattle.jvm_model.specs.declared.values.Location.TheVariants as place;
-ghost use Rattle.jvm_model.specs.declared.values.InitState.TheVariants.{Running};
+ghost use Rattle.jvm_model.specs.{declared.values.InitState.TheVariants.Running, View.Exists, World.at, World.put};
 ghost use Rattle.jvm_model.specs.Suite as suite;
-ghost use Rattle.jvm_model.specs.{View.Exists, World.at, World.put};
 
 use et_base::NoMemory;
 use jvm_model::{InitState, Program, Value};

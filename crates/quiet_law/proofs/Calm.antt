@@ -3,21 +3,19 @@ use Rattle.std.proofs.Common.{◌≡◌, ℕ, Bool, true, false, cond, List, [],
 use Rattle.jvm_model.specs.declared.{values.Value.Value, library.Native.Native, outcome.Verdict.TheVariants.Failed, outcome.Verdict.TheVariants.Error}
 use Rattle.jvm_model.specs.declared.values.Value.TheVariants.{Int, Long, Null, Lit, Obj}
 use Rattle.jvm_model.specs.declared.outcome.Next.TheVariants.{Go, Fault, Raise, Enter, Leave, Over}
-use Rattle.jvm_model.specs.declared.program.{Body.Body, Program.Program}
-use Rattle.jvm_model.specs.declared.state.{EntryKind.EntryKind, EntryKind.TheVariants.Absent, EntryKind.TheVariants.InMethod, EntryKind.TheVariants.InClass}
-use Rattle.jvm_model.specs.declared.state.Stage.{Stage}
+use Rattle.jvm_model.specs.declared.{program.Body.Body, program.Program.Program, state.EntryKind.EntryKind}
+use Rattle.jvm_model.specs.declared.state.{EntryKind.TheVariants.Absent, EntryKind.TheVariants.InMethod, EntryKind.TheVariants.InClass, Stage.Stage}
+use Rattle.jvm_model.specs.{Builtin.abstract_method_error, Builtin.assertion_error, Entries.Entries, Natives.row_native, Raising.handled, Raising.row_raise}
 use Rattle.jvm_model.specs.declared.state.Stage.TheVariants.{First, Made, Built, SetUp, Called, Last}
 use Rattle.jvm_model.specs.World.{World, Content, at, put, size, make_object}
 use Rattle.jvm_model.specs.Access.{Access, done, read, write, make, spend, bind, run}
-use Rattle.jvm_model.specs.{Builtin.abstract_method_error, Builtin.assertion_error, Entries.Entries, Natives.row_native, Raising.handled, Raising.row_raise}
+use Rattle.jvm_model.specs.{Initialise.row_finish, Initialise.fails, Initialise.fails_anew, Initialise.row_fail, Reached.Reaches, Reached.begins, Reached.steps}
 use Rattle.jvm_model.specs.Classes.{class_at, init_name, is_below, is_static, literal_at, method_at, upwards}
 use Rattle.jvm_model.specs.Driver.{set_up_name, tear_down_name, plain_method_in, plain_method_of, driven, drives, once_driven, makes, drive_first, drive_init, drive_method, drive_set_up, judged, judged_message, judged_value, judge, drive_tear_down, drive_at, drive}
-use Rattle.jvm_model.specs.Initialise.{row_finish, fails, fails_anew, row_fail}
-use Rattle.jvm_model.specs.Reached.{Reaches, begins, steps}
+use Rattle.jvm_model.specs.{Throwing.throws, Working.Working}
 use Rattle.jvm_model.specs.Rows.{Answer, answer, stuck_row, on_object, ready, begun, refused, begin, Used}
 use Rattle.jvm_model.specs.State.{State, Turn, next, ended, stuck_turn, raised_in, raise, test_at, with_entries}
 use Rattle.jvm_model.specs.Step.{after_native, entered, after_row, row_here, acts, step}
-use Rattle.jvm_model.specs.{Throwing.throws, Working.Working}
 
 -- each end of a program of accesses is such
 abbrev EndsIn : {A : Type 0} → (A → Type 0) → Access A → Type 0

@@ -1,10 +1,9 @@
 -- Where both runs do the same, and it touches nothing but what they have alike, they come out alike.
 use Rattle.std.proofs.Common.{◌≡◌, ◌⊎◌, ℕ, suc, ◌≤◌, List, [], ◌∷◌, Bool, true, false, not, ◌&&◌, ◌||◌, cond, All, sym, subst, inl, inr, arith}
 use Rattle.std.proofs.lemmas.Bool.{or_cases, and_parts}
-use Rattle.jvm_model.specs.declared.{values.Location.Location, values.Touch.Touch, program.Program.Program}
+use Rattle.jvm_model.specs.{declared.values.Location.Location, declared.values.Touch.Touch, declared.program.Program.Program, World.World, World.same}
 use Rattle.jvm_model.specs.declared.values.Location.TheVariants as place
-use Rattle.jvm_model.specs.{World.World, World.same, Classes.field_at}
-use Rattle.jvm_model.specs.Access.{Access, Ran, run}
+use Rattle.jvm_model.specs.{Classes.field_at, Access.Access, Access.Ran, Access.run}
 use Rattle.jvm_model.proofs.Locations.{same_true}
 use Rattle.order_law.specs.{Exposed.written, Exposed.exposed, Pairing.Paired}
 use Rattle.check_sound.proofs.Paced.{Limits, MayTouch, Paced, paced_touched}

@@ -1,13 +1,11 @@
 -- The instruction at the top in both runs.
 use Rattle.std.proofs.Common.{◌≡◌, ℕ, Bool, true, false, cond, Option, Some, None, refl, sym, ◌∙◌, ap, subst, arith, inl}
-use Rattle.jvm_model.specs.declared.{instr.Instr.Instr, program.Program.Program}
-use Rattle.jvm_model.specs.{World.World, Builtin.instantiation_error, Classes.form_at, Entries.Entries, Linked.Linked}
-use Rattle.jvm_model.specs.{Access.Access, Access.bind, Access.run, RowsCreate.is_bare, RowsCreate.new_object, RowsCreate.row_create}
-use Rattle.jvm_model.specs.{RowsCalls.argument_count, RowsCalls.row_calls, RowsStatics.row_statics, State.State}
-use Rattle.jvm_model.specs.Rows.{Answer, faults, none_here, using}
+use Rattle.jvm_model.specs.{declared.instr.Instr.Instr, declared.program.Program.Program, World.World, Builtin.instantiation_error, Classes.form_at}
+use Rattle.jvm_model.specs.{Entries.Entries, Linked.Linked, Access.Access, Access.bind, Access.run}
+use Rattle.jvm_model.specs.{RowsCreate.is_bare, RowsCreate.new_object, RowsCreate.row_create, RowsCalls.argument_count, RowsCalls.row_calls}
+use Rattle.jvm_model.specs.{RowsStatics.row_statics, State.State, Rows.Answer, Rows.faults, Rows.none_here, Rows.using}
 use Rattle.jvm_model.specs.Step.{group_of, row, row_or_none, row_here, after_row}
-use Rattle.order_law.specs.Pairing.{PairedOption, both_none, both_some}
-use Rattle.order_law.specs.{Matched.MatchedCode, Numbers.same_numbers, Forms.PairedInstr}
+use Rattle.order_law.specs.{Pairing.PairedOption, Pairing.both_none, Pairing.both_some, Matched.MatchedCode, Numbers.same_numbers, Forms.PairedInstr}
 use Rattle.order_law.specs.Forms as same
 use Rattle.order_law.proofs.Programs.{class_of-paired, form_at-paired, named-paired, virtual-paired, interface_call-paired, special-paired}
 use Rattle.order_law.proofs.Combinators.{Frames, faults-paired, stuck_row-paired, popping-paired, on_int-paired, with_kind-paired}
@@ -18,8 +16,7 @@ use Rattle.check_sound.proofs.PacedHere.{here-paced}
 use Rattle.check_sound.proofs.PacedRows.{none, one, NamesAllowed, read_static-paced, write_static-paced}
 use Rattle.quiet_init.specs.Quiet.{quiet}
 use Rattle.quiet_init.proofs.Beside.{IsHushed, Beside}
-use Rattle.quiet_law.proofs.{Together.Equal, Clear.clear, Matching.matched, Plain.twins, Plain.plain-paired}
-use Rattle.quiet_law.proofs.Use.{Out, rows_out, use_out}
+use Rattle.quiet_law.proofs.{Together.Equal, Clear.clear, Matching.matched, Plain.twins, Plain.plain-paired, Use.Out, Use.rows_out, Use.use_out}
 
 -- the row of the instruction that is found
 row_is : (p : Program) (s : Entries) (i : Instr) → form_at p s.top.number s.top.pc ≡ Some i → row_here p s ≡ row p i s

@@ -16,9 +16,8 @@ use Rattle.jvm_model.specs.{Rows.Answer, Rows.answer, Rows.none_here, Rows.fault
 use Rattle.order_law.specs.{Pairing.PairedOption, Pairing.both_none, Pairing.both_some, Numbers.Tested, Numbers.same_numbers}
 use Rattle.order_law.proofs.{States.class_top, Combinators.V, Combinators.stuck_row-paired}
 use Rattle.order_law.proofs.Steps.{States, starts-paired, looked-paired, finished-paired, fail-paired}
-use Rattle.check_sound.proofs.{Light.light, PacedCreate.cut, PacedRows.none}
+use Rattle.check_sound.proofs.{Light.light, PacedCreate.cut, PacedRows.none, PacedInit.EntryAllowed, PacedInit.finish-paced, PacedInit.fail-paced}
 use Rattle.check_sound.proofs.Paced.{either, paced_done, paced_write, paced_spend, PacedRow}
-use Rattle.check_sound.proofs.PacedInit.{EntryAllowed, finish-paced, fail-paced}
 use Rattle.quiet_init.specs.Quiet.{is_quiet, quiet}
 use Rattle.quiet_init.proofs.{Beside.IsHushed, Beside.Beside, Going.Among, Hushes.Sound, Hushes.kept_part, Parts.class_is, PartsKept.parts_kept}
 use Rattle.quiet_init.proofs.{Still.with_touch, Trivials.quiet_loud, Trivials.quiet_trivial}

@@ -2,12 +2,10 @@
 use Rattle.std.proofs.Common.{ℕ, length, Bool, true, false, cond, None, sym, ◌∙◌, subst, inl, inr, arith}
 use Rattle.std.specs.List.{range_with_len}
 use Rattle.std.specs.Prelude.{map}
-use Rattle.std.proofs.lemmas.{Bool.eqb-true, Bool.cases_lt, List.get_or_past}
-use Rattle.std.proofs.lemmas.List.FromFn.{get_or-map-range_with_len, length-map-range_with_len}
+use Rattle.std.proofs.lemmas.{Bool.eqb-true, Bool.cases_lt, List.get_or_past, List.FromFn.get_or-map-range_with_len, List.FromFn.length-map-range_with_len}
 use Rattle.jvm_model.specs.declared.{values.Value.Value, program.ClassRec.ClassRec, program.FieldRec.FieldRec, program.Program.Program}
 use Rattle.jvm_model.specs.declared.values.Location.TheVariants as place
-use Rattle.jvm_model.specs.{World.at, Linked.Linked}
-use Rattle.jvm_model.specs.Classes.{no_field, class_at, field_at}
+use Rattle.jvm_model.specs.{World.at, Linked.Linked, Classes.no_field, Classes.class_at, Classes.field_at}
 use Rattle.order_law.specs.{Matched.MatchedCode, Matched.PairedClass, Matched.PairedField, Numbers.same_numbers}
 use Rattle.order_law.proofs.Same.{self_matched}
 use Rattle.quiet_init.specs.Quiet.{is_quiet, left_by, quiet_field, quiet}

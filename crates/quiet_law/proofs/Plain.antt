@@ -1,7 +1,6 @@
 -- The rows that use no class are the same for the program without quiet initialisers.
 use Rattle.std.proofs.Common.{◌≡◌}
-use Rattle.jvm_model.specs.declared.{instr.Instr.Instr, program.Program.Program}
-use Rattle.jvm_model.specs.{Entries.Entries, Linked.Linked}
+use Rattle.jvm_model.specs.{declared.instr.Instr.Instr, declared.program.Program.Program, Entries.Entries, Linked.Linked}
 use Rattle.jvm_model.specs.Step.{Group, moves, arith, branches, fields, arrays, casts, returns, row_of}
 use Rattle.order_law.specs.{Numbers.same_numbers, Forms.PairedInstr}
 use Rattle.order_law.proofs.{Twins.Twins, Combinators.Frames, Combinators.Rows}

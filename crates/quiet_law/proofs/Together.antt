@@ -3,12 +3,11 @@ use Rattle.std.proofs.Common.{◌≡◌, ◌⊎◌, ℕ, ◌<◌, List, length, 
 use Rattle.std.specs.Prelude.{flat_map}
 use Rattle.std.specs.List.{list_all, list_any}
 use Rattle.std.proofs.lemmas.{List.get_or_past, Bool.eqb-true, Bool.eq-eqb, Bool.cases_lt}
-use Rattle.jvm_model.specs.declared.values.{Value.Value, Location.Location}
+use Rattle.jvm_model.specs.declared.{values.Value.Value, values.Location.Location, program.ClassRec.ClassRec, program.FieldRec.FieldRec}
 use Rattle.jvm_model.specs.declared.values.Value.TheVariants as value
 use Rattle.jvm_model.specs.declared.values.Location.TheVariants as place
-use Rattle.jvm_model.specs.declared.program.{ClassRec.ClassRec, FieldRec.FieldRec, Program.Program}
-use Rattle.jvm_model.specs.World.{World, Content, at}
-use Rattle.jvm_model.specs.{Access.Access, Access.run, Builtin.object_class, Library.builtin_defs, Library.builtin_classes, Suite.opening}
+use Rattle.jvm_model.specs.{declared.program.Program.Program, World.World, World.Content, World.at, Access.Access, Access.run, Builtin.object_class}
+use Rattle.jvm_model.specs.{Library.builtin_defs, Library.builtin_classes, Suite.opening}
 use Rattle.jvm_model.specs.Classes.{no_field, class_at, field_at, method_at, is_interface, is_trivial, is_default_method, default_interfaces, own_interfaces, first_mentions, lineage_in, class_bound, upwards, declares_start}
 use Rattle.jvm_model.proofs.{BuiltinRules.builtin_class, Upwards.upwards_root}
 use Rattle.order_law.specs.{Exposed.written, Exposed.exposed, Numbers.same_numbers, Numbers.with_places, Frame.Alike}

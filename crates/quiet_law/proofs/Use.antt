@@ -2,23 +2,20 @@
 -- alike.
 use Rattle.std.proofs.Common.{◌≡◌, ℕ, ◌≤◌, inl, inr, None, Bool, true, false, cond, nat_eq, refl, sym, ◌∙◌, ap, subst, arith}
 use Rattle.std.proofs.lemmas.Bool.{eqb-true}
-use Rattle.jvm_model.specs.declared.values.{InitState.InitState, InitState.TheVariants.Idle, InitState.TheVariants.Running, InitState.TheVariants.Done}
+use Rattle.jvm_model.specs.declared.values.InitState.{InitState, TheVariants.Idle, TheVariants.Running, TheVariants.Done}
 use Rattle.jvm_model.specs.declared.values.Location.TheVariants as place
-use Rattle.jvm_model.specs.declared.program.Program.{Program}
-use Rattle.jvm_model.specs.{World.World, World.at, World.put, Entries.Entries, Entries.class_entry, Entries.is_full, Entries.with_entry}
+use Rattle.jvm_model.specs.{declared.program.Program.Program, World.World, World.at, World.put}
+use Rattle.jvm_model.specs.{Entries.Entries, Entries.class_entry, Entries.is_full, Entries.with_entry, Builtin.stack_overflow_error, Classes.is_trivial}
 use Rattle.jvm_model.specs.Access.{Access, done, read, write, make, spend, bind, read_of, Ran, run}
-use Rattle.jvm_model.specs.{Builtin.stack_overflow_error, Classes.is_trivial, Linked.Linked, Step.after_row, Throwing.throws}
+use Rattle.jvm_model.specs.{Linked.Linked, Step.after_row, Throwing.throws, State.State, State.Turn, State.next, State.with_entries}
 use Rattle.jvm_model.specs.Rows.{Answer, Used, ready, begun, refused, begun_at, begin, once, using}
-use Rattle.jvm_model.specs.State.{State, Turn, next, with_entries}
 use Rattle.order_law.specs.{Pairing.Paired, Pairing.both_done, Pairing.both_read, Pairing.inits, Numbers.same_numbers}
 use Rattle.order_law.proofs.{States.PairedUsed, States.both_ready, States.PairedTurn, Steps.States, Steps.then_after}
 use Rattle.order_law.proofs.Combinators.{E, Rows, bind-paired, choose-paired, begun_at-paired, once-paired}
 use Rattle.check_sound.proofs.{Paced.PacedRow, Paced.CutRow, PacedCreate.cut, PacedStep.then-paced}
 use Rattle.quiet_init.specs.Quiet.{quiet}
-use Rattle.quiet_init.proofs.Beside.{IsHushed, IsPending, Beside}
-use Rattle.quiet_init.proofs.{Going.pushed, Still.with_touch, Trivials.trivial_kept}
-use Rattle.quiet_law.proofs.{Together.itself, Together.Equal, Plain.twins}
-use Rattle.quiet_law.proofs.Clear.{clear, Locked, lock}
+use Rattle.quiet_init.proofs.{Beside.IsHushed, Beside.IsPending, Beside.Beside, Going.pushed, Still.with_touch, Trivials.trivial_kept}
+use Rattle.quiet_law.proofs.{Together.itself, Together.Equal, Plain.twins, Clear.clear, Clear.Locked, Clear.lock}
 
 -- turns in pairs
 abbrev pub Met : Program → Turn → Turn → Type 0

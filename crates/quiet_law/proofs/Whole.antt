@@ -9,8 +9,7 @@ use Rattle.jvm_model.specs.{Reached.Reaches, Reached.steps, Reached.Overflows, S
 use Rattle.jvm_model.specs.Suite.{End, finished, stuck, out_of_steps, after_step, whole}
 use Rattle.jvm_model.proofs.Binds.{run_bind}
 use Rattle.order_law.specs.{Numbers.same_numbers, Outcomes.PairedEnd, Outcomes.both_finished, Pairing.PairedOption}
-use Rattle.order_law.proofs.{Combinators.V, Steps.States}
-use Rattle.order_law.proofs.States.{both_next, both_ended, no_turns}
+use Rattle.order_law.proofs.{Combinators.V, Steps.States, States.both_next, States.both_ended, States.no_turns}
 use Rattle.type_frames.specs.{Typing.IsTyped, TypedState.TypedState, TypedState.TypedWorld}
 use Rattle.check_sound.proofs.{AllGroups.groups, Reaching.reached_typed}
 use Rattle.quiet_init.specs.{Quiet.quiet, StillLaw.Leads, StillLaw.there, StillLaw.one_more}

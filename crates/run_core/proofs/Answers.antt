@@ -4,8 +4,7 @@ use Rattle.std.specs.List.{fold}
 use Rattle.std.proofs.lemmas.{Bool.cases_Bool, Bool.cases_lt, Bool.eqb-true, Bool.eq-eqb, List.length-append, List.length-reverse}
 use lib.ListN.{get_or-eq_default}
 use lib.Seq.{drop-cons, take-append_seam}
-use Rattle.jvm_model.specs.declared.{outcome.Outcome.Outcome, program.Program.Program}
-use Rattle.jvm_model.specs.Suite.{last_outcome}
+use Rattle.jvm_model.specs.{declared.outcome.Outcome.Outcome, declared.program.Program.Program, Suite.last_outcome}
 use Rattle.order_law.specs.Conflicts.{Member}
 use Rattle.order_law.specs.Plan as law
 use Rattle.order_law.proofs.Posts.{in_posts, reversed}

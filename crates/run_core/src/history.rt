@@ -2,8 +2,7 @@
 
 ghost use Rattle.std.specs.Prelude.{◌≡◌, ◌↔◌, ◌-◌, ◌<◌, ◌≤◌, ◌^◌, [], length, reverse, IsTrue, IfOk, IfErr, MatchOption};
 ghost use Rattle.order_law.specs.Plan.{Posted, posts};
-ghost use Rattle.run_core.specs.declared.events.Event.TheVariants.{Claim, Post};
-ghost use Rattle.run_core.specs.Kept.{IsClaimer, IsSplit};
+ghost use Rattle.run_core.specs.{declared.events.Event.TheVariants.Claim, declared.events.Event.TheVariants.Post, Kept.IsClaimer, Kept.IsSplit};
 ghost use Rattle.run_core.specs.Refusal.{HasNone, HasOpen, IsRefused, IsStep, Names};
 ghost use Rattle.run_core.specs.Run.{Gave, IsComplete, IsInRange, IsLegal, IsWorker, MayFollow, added, history, most_events};
 

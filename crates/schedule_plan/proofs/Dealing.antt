@@ -5,8 +5,7 @@ use Rattle.std.proofs.lemmas.List.Sums.{sum_by-cons, sum_by_push, sum_by-set, su
 use Rattle.std.proofs.{Math.ListN.length-set, Math.Nat.mul-le-mul_left, Math.Nat.mul-add, Math.Nat.suc-mul}
 use Rattle.order_law.specs.Conflicts.{Member}
 use Rattle.order_law.proofs.Members.{member_left, member_right, member_either}
-use Rattle.schedule_plan.specs.declared.shares.Share.{Share}
-use Rattle.schedule_plan.specs.Grouping.{at}
+use Rattle.schedule_plan.specs.{declared.shares.Share.Share, Grouping.at}
 use Rattle.schedule_plan.specs.Plans.{is_earlier, Falling, no_share, share_at, chains_at, load_at, load_before, IsLighter, IsPlanOf, AreBalanced, IsOrderOf, loads_of, with_chain, IsGiven, ArePlaced}
 use Rattle.schedule_plan.proofs.Inserted.{not_itself, not_both, falling_distinct, falling_at}
 

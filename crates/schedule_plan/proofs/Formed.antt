@@ -3,8 +3,7 @@ use Rattle.std.proofs.Common.{◌≡◌, ℕ, zero, suc, ◌<◌, true, nat_le, 
 use Rattle.std.specs.List.{list_all}
 use Rattle.std.proofs.lemmas.Bool.{cases_Bool, and_parts, true≢false, le-leb}
 use Rattle.jvm_model.specs.Classes.{member}
-use Rattle.order_law.specs.declared.edges.Edge.{Edge}
-use Rattle.order_law.specs.{Conflicts.Member, Conflicts.Distinct, RecordForm.no_repeats, RecordForm.joined, RecordForm.are_chains}
+use Rattle.order_law.specs.{declared.edges.Edge.Edge, Conflicts.Member, Conflicts.Distinct, RecordForm.no_repeats, RecordForm.joined, RecordForm.are_chains}
 use Rattle.order_law.specs.Plan.{chain_at, AreApart, AreListedChainsOf}
 use Rattle.order_law.proofs.{Members.member_either, Members.true_member, Posts.ascending_distinct}
 

@@ -1,9 +1,8 @@
 -- Classes of labels, and what they are of a graph.
 use Rattle.std.proofs.Common.{◌≡◌, ◌↔◌, ℕ, zero, suc, ◌+◌, ◌-◌, ◌<◌, ◌≤◌, Bool, true, false, cond, nat_eq, List, [], ◌∷◌, ◌++◌, length, get_or, refl, sym, ◌∙◌, ap, subst, inl, inr, arith, length-append}
 use Rattle.std.proofs.lemmas.{Bool.cases_eq, Bool.cases_lt, Bool.eqb-true, Bool.eqb-false, List.get_or_append_left, List.get_or-append_right}
-use Rattle.order_law.specs.declared.edges.Edge.{Edge}
+use Rattle.order_law.specs.{declared.edges.Edge.Edge, Plan.Ascending, Plan.chain_at, Plan.AreListedChainsOf}
 use Rattle.order_law.specs.Conflicts.{Member, Before, Joined, itself, forth, back}
-use Rattle.order_law.specs.Plan.{Ascending, chain_at, AreListedChainsOf}
 use Rattle.order_law.proofs.Members.{member_left, member_right, member_either, before_up, joined_within}
 use Rattle.dep_graph.specs.Graphs.{GoUp}
 use Rattle.dep_graph.proofs.SourceLaws.{ascending_more}

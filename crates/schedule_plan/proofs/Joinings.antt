@@ -1,7 +1,6 @@
 -- To be joined is an equivalence.
 use Rattle.std.proofs.Common.{ℕ, List}
-use Rattle.order_law.specs.declared.edges.Edge.{Edge}
-use Rattle.order_law.specs.Conflicts.{Joined, itself, forth, back}
+use Rattle.order_law.specs.{declared.edges.Edge.Edge, Conflicts.Joined, Conflicts.itself, Conflicts.forth, Conflicts.back}
 use Rattle.order_law.proofs.Members.{joined_within}
 
 pub joined_on : {R : List Edge} {S : ℕ → Type 0} {t u v : ℕ} → Joined R S t u → Joined R S u v → Joined R S t v

@@ -3,8 +3,7 @@ use Rattle.std.proofs.Common.{◌≡◌, ◌↔◌, ℕ, zero, suc, ◌+◌, ◌
 use Rattle.std.proofs.lemmas.{Bool.cases_Bool, Bool.true≢false, List.same_lists, List.get_or_default}
 use Rattle.std.proofs.{lemmas.List.Sums.sum_by-cons, lemmas.List.Sums.get_or-le-sum_by, Math.Nat.mul-le-mul_right, Math.Nat.suc-mul, Math.Nat.zero-add}
 use Rattle.order_law.specs.Conflicts.{Member}
-use Rattle.schedule_plan.specs.declared.shares.Share.{Share}
-use Rattle.schedule_plan.specs.Grouping.{at}
+use Rattle.schedule_plan.specs.{declared.shares.Share.Share, Grouping.at}
 use Rattle.schedule_plan.specs.Plans.{is_earlier, Falling, no_share, share_at, chains_at, load_before, IsLighter, IsPlanOf, LawOfPlans}
 use Rattle.schedule_plan.proofs.{Inserted.earlier_is, Inserted.not_itself, Inserted.not_both, Dealing.held_within}
 

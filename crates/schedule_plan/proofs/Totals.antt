@@ -1,12 +1,10 @@
 -- Sums of units of different tests.
 use Rattle.std.proofs.Common.{◌≡◌, ℕ, suc, ◌+◌, ◌-◌, ◌<◌, ◌≤◌, true, List, [], ◌∷◌, ◌++◌, length, get_or, set, take, map, replicate, All, sum, sum_by, refl, sym, ◌∙◌, ap, subst, inl, inr, arith, length-append}
-use Rattle.std.proofs.lemmas.Bool.{cases_eq}
+use Rattle.std.proofs.{lemmas.Bool.cases_eq, lemmas.List.Elements.All-from_get_or, lemmas.List.Folds.sum_by-replicate, Math.ListN.length-set}
 use Rattle.std.proofs.lemmas.List.{get_or-set_other, get_or-replicate, length-replicate, take_all, take_more, map-append, length-map, get_or_read}
-use Rattle.std.proofs.{lemmas.List.Elements.All-from_get_or, lemmas.List.Folds.sum_by-replicate, Math.ListN.length-set}
 use Rattle.std.proofs.lemmas.List.Sums.{sum_by-cons, sum_by-append, sum_by-set, sum-map, sum_by-take-le, sum_by_more}
 use Rattle.order_law.specs.{Conflicts.Member, Conflicts.Distinct, RecordForm.joined, Plan.chain_at, Plan.AreApart, RecordForm.are_chains}
-use Rattle.schedule_plan.specs.Grouping.{at}
-use Rattle.schedule_plan.specs.declared.shares.Share.{Share}
+use Rattle.schedule_plan.specs.{declared.shares.Share.Share, Grouping.at}
 use Rattle.schedule_plan.specs.Plans.{HasUnits, HaveUnits, units_of, chain_units, no_share, chains_at, AreDealt}
 use Rattle.order_law.proofs.Posts.{forms_apart}
 use Rattle.schedule_plan.proofs.Formed.{joined_where, distinct_joined, filled_from, chain_there}

@@ -1,7 +1,6 @@
 -- Labels of the places of a list of tests, and the classes that they make.
 use Rattle.std.specs.Prelude.{◌≡◌, ◌↔◌, ℕ, ◌<◌, ◌≤◌, List, length, get_or}
-use Rattle.order_law.specs.declared.edges.Edge.{Edge}
-use Rattle.order_law.specs.{Conflicts.Member, Conflicts.Before, Conflicts.Joined, Plan.Ascending, Plan.chain_at}
+use Rattle.order_law.specs.{declared.edges.Edge.Edge, Conflicts.Member, Conflicts.Before, Conflicts.Joined, Plan.Ascending, Plan.chain_at}
 
 -- the number at a place
 abbrev pub at : List ℕ → ℕ → ℕ

@@ -1,8 +1,7 @@
 -- Plans: which worker runs which chains. Workers and chains are numbered from 0 by their places.
 use Rattle.std.specs.Prelude.{◌≡◌, ◌↔◌, ◌⊎◌, ℕ, ◌+◌, ◌-◌, ◌*◌, ◌<◌, ◌≤◌, List, [], ◌∷◌, ◌++◌, length, get_or, slice_set, take, map, sum, sum_by, Bool, true, ◌&&◌, ◌||◌, cond, nat_eq, nat_lt}
 use Rattle.order_law.specs.{Conflicts.Member, Conflicts.Distinct, Plan.chain_at}
-use Rattle.schedule_plan.specs.declared.shares.Share.{Share}
-use Rattle.schedule_plan.specs.Grouping.{at}
+use Rattle.schedule_plan.specs.{declared.shares.Share.Share, Grouping.at}
 
 -- there is an entry of units for each test
 abbrev pub HasUnits : List ℕ → List ℕ → Type 0

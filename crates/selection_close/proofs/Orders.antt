@@ -1,8 +1,7 @@
 -- Lists that keep to the order of edges, a place further.
 use Rattle.std.proofs.Common.{ℕ, ◌+◌, ◌<◌, List, [], ◌∷◌, ◌++◌, length, get_or, take, refl, sym, subst, inl, inr, arith}
 use Rattle.std.proofs.lemmas.{Bool.cases_eq, List.take_more, Option.get_or_from_slice_get}
-use Rattle.order_law.specs.declared.edges.Edge.{Edge}
-use Rattle.order_law.specs.{Conflicts.Member, Conflicts.Before, Conflicts.InOrder, OrderFault.IsInPlace}
+use Rattle.order_law.specs.{declared.edges.Edge.Edge, Conflicts.Member, Conflicts.Before, Conflicts.InOrder, OrderFault.IsInPlace}
 use Rattle.order_law.proofs.Members.{member_either}
 use Rattle.selection_close.specs.Faults.{IsBeforeNone}
 use Rattle.selection_close.proofs.Lists.{member_place}

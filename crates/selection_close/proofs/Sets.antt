@@ -5,8 +5,7 @@ use Rattle.std.proofs.lemmas.List.{take_more, take_all}
 use Rattle.order_law.specs.declared.edges.{Edge.Edge, EdgeKind.TheVariants.Raw}
 use Rattle.order_law.specs.{Conflicts.Member, Conflicts.HasEdge, OrderFault.HasWriters, Plan.Ascending}
 use Rattle.order_law.proofs.Members.{member_left, member_right}
-use Rattle.dep_graph.specs.declared.sets.TestSet.{TestSet}
-use Rattle.dep_graph.specs.{Sets.holds, Graphs.GoUp, Graphs.AreWriters}
+use Rattle.dep_graph.specs.{declared.sets.TestSet.TestSet, Sets.holds, Graphs.GoUp, Graphs.AreWriters}
 use Rattle.selection_close.specs.Faults.{HoldsList, HasAll, IsLeastOutside, gained}
 use Rattle.selection_close.proofs.Lists.{member_at, member_next}
 

@@ -1,12 +1,9 @@
 -- Faults of lists of tests, and what finds them.
 use Rattle.std.specs.Prelude.{◌≡◌, ◌↔◌, ℕ, ◌<◌, List, Bool, true, false, ◌||◌, nat_eq, get_or}
-use Rattle.order_law.specs.declared.edges.{Edge.Edge, EdgeKind.TheVariants.Raw}
-use Rattle.order_law.specs.Conflicts.{Member, HasEdge, Before}
+use Rattle.order_law.specs.{declared.edges.Edge.Edge, declared.edges.EdgeKind.TheVariants.Raw, Conflicts.Member, Conflicts.HasEdge, Conflicts.Before}
 use Rattle.order_law.specs.OrderFault as law
-use Rattle.dep_graph.specs.declared.sets.TestSet.{TestSet}
-use Rattle.dep_graph.specs.Sets.{holds}
-use Rattle.selection_close.specs.declared.faults.OrderFault.{OrderFault}
-use Rattle.selection_close.specs.declared.faults.OrderFault.TheVariants.{Twice, MissingWriter, Inverted}
+use Rattle.dep_graph.specs.{declared.sets.TestSet.TestSet, Sets.holds}
+use Rattle.selection_close.specs.declared.faults.OrderFault.{OrderFault, TheVariants.Twice, TheVariants.MissingWriter, TheVariants.Inverted}
 
 -- the fault that is named
 abbrev pub fault_of : OrderFault → law.OrderFault

@@ -1,7 +1,6 @@
 -- One part of a store.
 use Rattle.std.specs.Prelude.{List}
-use Rattle.sim_store.specs.Stored.{Stored, Named}
-use Rattle.sim_store.specs.declared.store.{Part.Part, Part.TheVariants.File, Part.TheVariants.Prop}
+use Rattle.sim_store.specs.{declared.store.Part.Part, declared.store.Part.TheVariants.File, declared.store.Part.TheVariants.Prop, Stored.Stored, Stored.Named}
 
 abbrev pub in_part : Part → Stored → List Named
 in_part File s = s.files

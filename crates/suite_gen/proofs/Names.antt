@@ -1,11 +1,9 @@
 -- Names of a letter and a number, as pool entries.
 use Rattle.std.proofs.Common.{◌≡◌, ℕ, ◌<◌, ◌≤◌, ◌^◌, List, [], ◌∷◌, ◌++◌, length, decimal, refl, ap, ◌∙◌, arith}
 use Rattle.std.specs.{Str.Parse.AllDigits, Int.w16, Int.to_be_bytes}
-use Rattle.std.proofs.lemmas.{Bool.and_from, Bool.le-leb, Bool.lt-ltb, Fmt.decimal_is_IsNumeral}
-use Rattle.std.proofs.lemmas.Str.Parse.{digit_from_value}
+use Rattle.std.proofs.lemmas.{Bool.and_from, Bool.le-leb, Bool.lt-ltb, Fmt.decimal_is_IsNumeral, Str.Parse.digit_from_value}
 use Rattle.et_base.specs.Utf.{utf, group}
-use Rattle.class_pool.specs.declared.pool.Entry.TheVariants.{Utf8}
-use Rattle.class_pool.specs.PoolGrammar.{entry_bytes}
+use Rattle.class_pool.specs.{declared.pool.Entry.TheVariants.Utf8, PoolGrammar.entry_bytes}
 use Rattle.suite_gen.specs.Bytes.{name_bytes}
 
 one_byte : (u : ℕ) → 1 ≤ u → u < 128 → group u ≡ u ∷ []

@@ -1,11 +1,9 @@
 -- What is written spells the generated class.
 use Rattle.std.proofs.Common.{◌≡◌, ℕ, zero, suc, ◌+◌, ◌-◌, ◌*◌, ◌%◌, ◌≤◌, List, [], ◌∷◌, ◌++◌, length, map, Bool, true, false, ◌==◌, if◌then◌else◌, Option, refl, sym, ap, ◌∙◌, arith}
 use Rattle.std.specs.{Int.w16, Int.w32, Int.to_be_bytes, List.flat_map, List.range_with_len}
-use Rattle.std.proofs.lemmas.{Grind.flat_map-append, List.length-append}
-use Rattle.std.proofs.{lemmas.List.Folds.flat_map-map, lemmas.List.FromFn.length-map-range_with_len}
+use Rattle.std.proofs.lemmas.{Grind.flat_map-append, List.length-append, List.Folds.flat_map-map, List.FromFn.length-map-range_with_len}
 use Rattle.et_base.specs.Utf.{group}
-use Rattle.class_pool.specs.declared.pool.Entry.{Entry}
-use Rattle.class_pool.specs.PoolGrammar.{slot_bytes, pool_spelling}
+use Rattle.class_pool.specs.{declared.pool.Entry.Entry, PoolGrammar.slot_bytes, PoolGrammar.pool_spelling}
 use Rattle.code_decode.specs.Opcodes.{shape_of}
 use Rattle.class_write.specs.declared.names.Names.{Names}
 use Rattle.class_write.specs.Spelling as spelling

@@ -3,17 +3,14 @@ use Rattle.std.proofs.Common.{◌≡◌, ℕ, List, Option, Some, Ok, Err, refl,
 use Rattle.class_reader.specs.declared.parts.ClassParts.{ClassParts}
 use Rattle.jvm_model.specs.declared.program.Program.{Program}
 use Rattle.order_law.specs.declared.records.Prints.{Prints}
-use Rattle.class_link.specs.declared.{fault.LinkFault.LinkFault, lines.TestLines.TestLines}
+use Rattle.class_link.specs.{declared.fault.LinkFault.LinkFault, declared.lines.TestLines.TestLines, Link.Links, Link.LinksBy}
 use Rattle.class_link.specs.declared.fault.LinkFault.TheVariants as linking
-use Rattle.class_link.specs.Link.{Links, LinksBy}
-use Rattle.type_frames.specs.declared.fault.CheckFault.{CheckFault}
+use Rattle.type_frames.specs.{declared.fault.CheckFault.CheckFault, Typing.IsTyped, Typing.check_fault}
 use Rattle.type_frames.specs.declared.fault.CheckFault.TheVariants as checking
-use Rattle.type_frames.specs.Typing.{IsTyped, check_fault}
 use Rattle.type_checker.proofs.Typed.{typed_no_fault}
-use Rattle.suite_load.specs.declared.suite_text.SuiteText.{SuiteText}
+use Rattle.suite_load.specs.{declared.suite_text.SuiteText.SuiteText, LoadAnswers.Checks, LoadAnswers.check_answer}
 use Rattle.suite_load.specs.declared.load_fault.LoadFault.TheVariants as fault
 use Rattle.suite_load.specs.Loading.{◌>>=◌, lines_of, link_fault, typed_answer, loaded_of, checked_of, ReadGives}
-use Rattle.suite_load.specs.LoadAnswers.{Checks, check_answer}
 
 pub linked_goes : (suite : SuiteText) (classes : List ClassParts) (lines : TestLines) (p q : Program) → lines ≡ lines_of suite → Links classes lines (Ok p) → q ≡ p → IsTyped p → Checks suite classes (Ok q)
 unfolding checked_of

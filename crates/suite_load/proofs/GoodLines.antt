@@ -8,13 +8,12 @@ use Rattle.std.proofs.{lemmas.List.Folds.list_all-append, lemmas.List.Folds.list
 use Rattle.jvm_model.specs.Suite.{suite_limit}
 use Rattle.class_link.specs.Link.{AreLines, AreDifferent}
 use Rattle.class_link.specs.Link as link
-use Rattle.suite_load.specs.declared.suite_line.SuiteLine.{SuiteLine}
+use Rattle.suite_load.specs.declared.{suite_line.SuiteLine.SuiteLine, suite_text.SuiteText.SuiteText, suite_text.FileLine.FileLine}
 use Rattle.suite_load.specs.declared.suite_line.SuiteLine.TheVariants.{Header, Budget, Class, File, Test, End}
-use Rattle.suite_load.specs.declared.suite_text.{SuiteText.SuiteText, FileLine.FileLine, TestLine.TestLine, SuiteRefusal.SuiteRefusal}
+use Rattle.suite_load.specs.declared.{suite_text.TestLine.TestLine, suite_text.SuiteRefusal.SuiteRefusal, first_word.FirstWord.FirstWord}
 use Rattle.suite_load.specs.declared.suite_text.Why.TheVariants as why
-use Rattle.suite_load.specs.declared.first_word.FirstWord.{FirstWord}
-use Rattle.suite_load.specs.declared.first_word.FirstWord.TheVariants as words
 use Rattle.suite_load.specs.{ContentForm.content_of, NameForms.is_test_name, NumberForms.budget_of, Reading.tested}
+use Rattle.suite_load.specs.declared.first_word.FirstWord.TheVariants as words
 use Rattle.suite_load.specs.LineForms.{Row, rows, cut}
 use Rattle.suite_load.specs.SuiteForm.{added, suite_from, class_names, file_names, test_names, fault, fresh, one_field, is_in_order, placed, second_header, budget_line, class_name, class_line, file_fields, file_line, stream_fields, stream_of, test_from, test_of, test_line, end_line, first_word, line_of, is_formed, later_line, first_line, next_line, is_ended, missing, whole, lines_from, suite_of}
 use Rattle.suite_load.specs.Loading as loading

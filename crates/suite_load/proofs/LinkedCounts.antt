@@ -2,16 +2,14 @@
 use Rattle.std.proofs.Common.{◌≡◌, ℕ, suc, ◌+◌, List, [], ◌∷◌, ◌++◌, length, refl, sym, ap, ◌∙◌, arith, Option, Some, None, Result, Ok, Err}
 use Rattle.std.proofs.lemmas.List.{length_push, length-map}
 use Rattle.class_reader.specs.declared.parts.ClassParts.{ClassParts}
-use Rattle.jvm_model.specs.Builtin.{builtin_count}
-use Rattle.jvm_model.specs.declared.program.{Program.Program, TestEntry.TestEntry}
+use Rattle.jvm_model.specs.{declared.program.Program.Program, declared.program.TestEntry.TestEntry, Builtin.builtin_count}
 use Rattle.class_link.specs.declared.{fault.LinkFault.LinkFault, lines.TestLine.TestLine, lines.TestLines.TestLines}
 use Rattle.class_link.specs.declared.fault.LinkFault.TheVariants as linking
 use Rattle.class_link.specs.{Assembly.assembled, Bodies.linked_body}
 use Rattle.class_link.proofs.{Assembled.class_count, LinkLaw.bound}
 use Rattle.class_link.specs.Faults.{first_some, duplicate_fault, supertypes_fault, all_references_fault, test_entry}
 use Rattle.class_link.specs.Link.{setting, unless, cycle_fault, tests_of, program_of, link_by, Links}
-use Rattle.suite_load.specs.declared.suite_text.SuiteText.{SuiteText}
-use Rattle.suite_load.specs.Loading.{line_of, lines_of}
+use Rattle.suite_load.specs.{declared.suite_text.SuiteText.SuiteText, Loading.line_of, Loading.lines_of}
 
 -- what is answered for the lines has as many tests
 counted : (cs : List ClassParts) (budget : ℕ) (front : List TestEntry) (xs : List TestLine) (ts : List TestEntry) → tests_of (setting cs) budget front xs ≡ Ok ts → length ts ≡ length front + length xs

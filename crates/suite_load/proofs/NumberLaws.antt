@@ -1,8 +1,7 @@
 -- What a budget can be.
 use Rattle.std.proofs.Common.{◌≡◌, ℕ, ◌+◌, ◌-◌, ◌*◌, ◌<◌, ◌≤◌, true, false, eqb, List, [], ◌∷◌, length, slice_index, Some, arith}
 use Rattle.std.specs.{Char.is_ascii_digit, Char.digit_value, Str.all_ascii_digits, Str.Parse.digits_value}
-use Rattle.std.proofs.lemmas.{Bool.leb-true, Bool.and_parts, Bool.or_parts, Option.cond_some}
-use Rattle.std.proofs.lemmas.Bool.Decides.{nat_tests}
+use Rattle.std.proofs.lemmas.{Bool.leb-true, Bool.and_parts, Bool.or_parts, Option.cond_some, Bool.Decides.nat_tests}
 use Rattle.dep_record.specs.Fields.{digits_up_to, number_up_to}
 use Rattle.dep_record.proofs.{FieldLaws.none_chosen, NumberLaws.value_grows, NumberLaws.digit_is}
 use Rattle.suite_load.specs.NumberForms.{budget_of}

@@ -1,9 +1,8 @@
 -- What is kept of good lines, with one line more.
 use Rattle.std.proofs.Common.{◌≡◌, ℕ, max, Bool, true, false, ◌&&◌, ◌||◌, nat_le, List, [], ◌∷◌, ◌++◌, map, sym, ap, ◌∙◌, arith}
 use Rattle.std.proofs.{lemmas.List.Folds.list_all-append, lemmas.List.Folds.list_any-append, lemmas.List.Sums.fold-append, lemmas.Bool.Decides.nat_tests}
-use Rattle.suite_load.specs.declared.suite_line.SuiteLine.{SuiteLine}
+use Rattle.suite_load.specs.{declared.suite_line.SuiteLine.SuiteLine, Summary.IsSummary}
 use Rattle.suite_load.specs.SuiteForm.{added, empty_suite, suite_from, is_in_order, is_ended, is_end, place_of}
-use Rattle.suite_load.specs.Summary.{IsSummary}
 
 pub suite_more : (lines : List SuiteLine) (line : SuiteLine) → suite_from (lines ++ line ∷ []) ≡ added (suite_from lines) line
 unfolding suite_from

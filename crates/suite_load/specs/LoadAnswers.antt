@@ -1,8 +1,7 @@
 -- What a part of loading answered of what a definition says.
 use Rattle.std.specs.Prelude.{◌≢◌, ℕ, List, Option, Some, None, Result, Ok, Err, IfSome}
 use Rattle.et_base.specs.Answers.{Gives}
-use Rattle.outside.specs.Depot.{Files}
-use Rattle.outside.specs.declared.depot.DepotRefusal.{DepotRefusal}
+use Rattle.outside.specs.{declared.depot.DepotRefusal.DepotRefusal, Depot.Files}
 use Rattle.outside.specs.declared.depot.DepotRefusal.TheVariants as refused
 use Rattle.class_reader.specs.declared.fault.ClassFault.TheVariants as class
 use Rattle.class_reader.specs.declared.parts.ClassParts.{ClassParts}

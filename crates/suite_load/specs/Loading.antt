@@ -4,23 +4,19 @@ use Rattle.std.specs.Prelude.{◌≡◌, ◌⊎◌, IsOk, ℕ, ◌+◌, ◌-◌,
 pub use Rattle.et_base.specs.Answers.{◌>>=◌}
 use Rattle.et_base.specs.Quotes.{name_of}
 use Rattle.outside.specs.Depot.{Files, content}
-use Rattle.class_reader.specs.declared.{parts.ClassParts.ClassParts, fault.ClassFault.ClassFault}
+use Rattle.class_reader.specs.{declared.parts.ClassParts.ClassParts, declared.fault.ClassFault.ClassFault, Faults.class_of}
 use Rattle.class_reader.specs.declared.fault.ClassFault.TheVariants as class
-use Rattle.class_reader.specs.Faults.{class_of}
 use Rattle.jvm_model.specs.declared.program.{Program.Program, Names.Names}
 use Rattle.order_law.specs.declared.records.Prints.{Prints}
 use Rattle.dep_record.specs.Hashes.{prints_of}
-use Rattle.class_link.specs.declared.{fault.LinkFault.LinkFault, lines.TestLines.TestLines}
+use Rattle.class_link.specs.{declared.fault.LinkFault.LinkFault, declared.lines.TestLines.TestLines, Link.LinksBy}
 use Rattle.class_link.specs.declared.fault.LinkFault.TheVariants as linking
 use Rattle.class_link.specs.declared.lines.TestLine as line
-use Rattle.class_link.specs.Link.{LinksBy}
-use Rattle.type_frames.specs.declared.fault.CheckFault.{CheckFault}
-use Rattle.type_frames.specs.Typing.{check_fault}
+use Rattle.type_frames.specs.{declared.fault.CheckFault.CheckFault, Typing.check_fault}
 use Rattle.suite_load.specs.declared.suite_text.{SuiteText.SuiteText, TestLine.TestLine, SuiteRefusal.SuiteRefusal}
 use Rattle.suite_load.specs.declared.suite_text.SuiteRefusal.TheVariants as refusals
 use Rattle.suite_load.specs.declared.suite_text.Why.TheVariants as why
-use Rattle.suite_load.specs.SuiteForm.{suite_of}
-use Rattle.suite_load.specs.declared.{load_fault.LoadFault.LoadFault, loaded.Loaded.Loaded}
+use Rattle.suite_load.specs.{declared.load_fault.LoadFault.LoadFault, declared.loaded.Loaded.Loaded, SuiteForm.suite_of}
 use Rattle.suite_load.specs.declared.load_fault.LoadFault.TheVariants as fault
 
 -- ---- files

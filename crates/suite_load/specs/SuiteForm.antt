@@ -1,7 +1,6 @@
 -- The form of a suite text (this project's): its lines, what each says, and the first faulty one.
 use Rattle.std.specs.Prelude.{◌≡◌, ℕ, ℤ, ◌+◌, ◌==◌, ◌&&◌, not, Bool, false, List, [], ◌∷◌, ◌++◌, length, map, fold, Option, Some, None, Result, Ok, Err, nat_le, nat_lt, codes, if◌then◌else◌}
-use Rattle.std.specs.{Option.ok_or, Str.bytes_eq}
-use Rattle.std.specs.List.{list_all, list_any, before_last, after_last}
+use Rattle.std.specs.{Option.ok_or, Str.bytes_eq, List.list_all, List.list_any, List.before_last, List.after_last}
 use Rattle.dep_record.specs.Fields.{is_printable}
 use Rattle.suite_load.specs.declared.suite_text.{SuiteText.SuiteText, TestLine.TestLine, SuiteRefusal.SuiteRefusal, Why.Why}
 use Rattle.suite_load.specs.declared.suite_text.SuiteRefusal.TheVariants as refusals
@@ -11,8 +10,7 @@ use Rattle.suite_load.specs.declared.suite_line.SuiteLine.TheVariants.{Header, B
 use Rattle.suite_load.specs.declared.first_word.FirstWord.TheVariants as words
 use Rattle.suite_load.specs.LineForms.{Row, rows, cut, first_row, rest_of}
 use Rattle.suite_load.specs.NameForms.{is_depot_name, is_file_name, is_test_name}
-use Rattle.suite_load.specs.NumberForms.{budget_of, clock_of, seed_of}
-use Rattle.suite_load.specs.{ContentForm.content_of, Reading.◌>>=◌, Reading.tested}
+use Rattle.suite_load.specs.{NumberForms.budget_of, NumberForms.clock_of, NumberForms.seed_of, ContentForm.content_of, Reading.◌>>=◌, Reading.tested}
 
 -- what a line adds to what the lines before it say
 abbrev pub added : SuiteText → SuiteLine → SuiteText

@@ -1,7 +1,6 @@
 -- What a machine keeps after one test more.
 use Rattle.std.proofs.Common.{◌≡◌, ◌≤◌, ℕ, List, [], ◌∷◌, ◌++◌, Option, Some, IfSome, refl, sym, subst, ap, ◌∙◌, arith}
-use Rattle.jvm_model.specs.declared.{outcome.Outcome.Outcome, program.Program.Program}
-use Rattle.jvm_model.specs.{State.test_at, World.World}
+use Rattle.jvm_model.specs.{declared.outcome.Outcome.Outcome, declared.program.Program.Program, State.test_at, World.World}
 use Rattle.jvm_model.specs.Suite.{Given, opening, one_test, runs, last_outcome, outcome_in, world_after}
 use Rattle.jvm_model.proofs.{Budgets.one_test_within, Budgets.one_test_units, Runs.runs_more, Runs.last_outcome_is, Runs.with_last}
 use Rattle.type_frames.specs.TypedState.{TypedWorld}

@@ -1,8 +1,7 @@
 -- The run of a list, test by test.
 use Rattle.std.proofs.Common.{◌≡◌, ℕ, ◌+◌, List, [], ◌∷◌, ◌++◌, length, Option, Some, None, refl, sym, subst, ap, ◌∙◌, append_assoc, arith}
 use Rattle.std.proofs.lemmas.List.{map-append, length-append}
-use Rattle.jvm_model.specs.declared.{outcome.Outcome.Outcome, program.Program.Program, values.Touch.Touch}
-use Rattle.jvm_model.specs.{State.test_at, World.World}
+use Rattle.jvm_model.specs.{declared.outcome.Outcome.Outcome, declared.program.Program.Program, declared.values.Touch.Touch, State.test_at, World.World}
 use Rattle.jvm_model.specs.Suite.{Given, first_over_on, one_test, runs_on, units_of, with_first, world_after}
 use Rattle.jvm_model.proofs.Runs.{runs_after, runs_more, with_last, split}
 use Rattle.vm_mem.specs.Trace.{Trace, next_test}

@@ -6,8 +6,7 @@ use Rattle.jvm_model.specs.{State.State, State.started, Suite.one_test, Suite.tr
 use Rattle.jvm_model.proofs.Bridges.{touched_is}
 use Rattle.type_frames.specs.TypedState.{TypedWorld}
 use Rattle.vm_mem.specs.Trace.{Trace, next_test}
-use Rattle.vm_interp.specs.declared.state.State.{State as Kept}
-use Rattle.vm_interp.specs.Reaching.{TracesTest, given_by}
+use Rattle.vm_interp.specs.{declared.state.State.State as Kept, Reaching.TracesTest, Reaching.given_by}
 use Rattle.test_run.specs.Outcomes.{given_in, TracesOne}
 
 -- the outcome of a test that ended with this verdict

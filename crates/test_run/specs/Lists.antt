@@ -1,11 +1,9 @@
 -- What the run of a list of tests gives.
 use Rattle.std.specs.Prelude.{◌≡◌, ℕ, ◌+◌, List, [], ◌∷◌, ◌++◌, length, map, Some}
-use Rattle.jvm_model.specs.declared.{outcome.Outcome.Outcome, program.Program.Program, values.Touch.Touch}
-use Rattle.jvm_model.specs.{State.test_at, World.World}
+use Rattle.jvm_model.specs.{declared.outcome.Outcome.Outcome, declared.program.Program.Program, declared.values.Touch.Touch, State.test_at, World.World}
 use Rattle.jvm_model.specs.Suite.{Given, first_over_on, one_test, runs_on, units_of, world_after}
 use Rattle.vm_mem.specs.Trace.{Trace, next_test}
-use Rattle.test_run.specs.Running.{IsRefused}
-use Rattle.test_run.specs.declared.run_fault.RunFault.{RunFault}
+use Rattle.test_run.specs.{declared.run_fault.RunFault.RunFault, Running.IsRefused}
 use Rattle.test_run.specs.declared.run_fault.RunFault.TheVariants as fault
 
 -- the story, and the touches of its last test, after these tests gave these

@@ -1,7 +1,6 @@
 -- What a machine keeps, what contracts see of it and of a piece, and how a test is refused.
 use Rattle.std.specs.Prelude.{◌≡◌, ◌<◌, ◌≤◌, ℕ, List, length, Bool, false, Some, None, min}
-use Rattle.jvm_model.specs.declared.{outcome.Outcome.Outcome, program.Program.Program}
-use Rattle.jvm_model.specs.{State.test_at, World.World}
+use Rattle.jvm_model.specs.{declared.outcome.Outcome.Outcome, declared.program.Program.Program, State.test_at, World.World}
 use Rattle.jvm_model.specs.Suite.{Given, opening, one_test, runs, world_after}
 use Rattle.type_frames.specs.TypedState.{TypedWorld}
 use Rattle.check_sound.specs.ReachLaw.{HasStackLimits}

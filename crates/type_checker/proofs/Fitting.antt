@@ -3,8 +3,7 @@ use Rattle.std.proofs.Common.{◌≡◌, suc, List, [], ◌∷◌, ◌++◌, len
 use Rattle.std.proofs.lemmas.{Bool.cases_eq, List.reverse-append, List.length-reverse}
 use Rattle.std.proofs.Math.Bool.{and-false, and_comm, and_assoc}
 use Rattle.jvm_model.specs.declared.program.Program.{Program}
-use Rattle.type_frames.specs.declared.vtype.VType.{VType}
-use Rattle.type_frames.specs.{Assign.assignable, Rules.fit_all}
+use Rattle.type_frames.specs.{declared.vtype.VType.VType, Assign.assignable, Rules.fit_all}
 
 pub fit_all_lengths : (p : Program) (xs ys : List VType) → (length xs ≡ length ys → ⊥) → fit_all p xs ys ≡ false
 fit_all_lengths p [] [] ne = absurd (ne refl)

@@ -2,9 +2,8 @@
 
 ghost use Rattle.std.specs.Prelude.{◌≡◌, ◌∷◌, ◌++◌, [], IfOk, OnOk, Bool, true, false, not, ◌&&◌, ◌||◌, length, option_to_list, replicate, reverse, List};
 ghost use Rattle.std.specs.List.{list_any};
-ghost use Rattle.type_frames.specs.{Frames.same, Descriptors.kind_name, Descriptors.types_of};
+ghost use Rattle.type_frames.specs.{declared.vtype.VType.VType, Frames.same, Descriptors.kind_name, Descriptors.types_of};
 ghost use Rattle.jvm_model.specs.Classes.{class_at, field_at, method_at};
-ghost use Rattle.type_frames.specs.declared.vtype.VType.{VType};
 ghost use Rattle.type_frames.specs.declared.vtype.VType.TheVariants as types;
 ghost use Rattle.type_frames.specs.declared.stack_effect.OperandConstraint.TheVariants as wants;
 ghost use Rattle.type_frames.specs.declared.stack_effect.Substitution.TheVariants as turns;

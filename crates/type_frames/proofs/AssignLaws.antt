@@ -4,17 +4,14 @@ use Rattle.std.proofs.Common.{◌≡◌, ◌⊎◌, ℕ, suc, ◌<◌, List, [],
 use Rattle.std.specs.Prelude.{position, option_and_then, nat_le, nat_lt}
 use Rattle.std.specs.{List.list_all, List.list_any, Str.bytes_eq}
 use Rattle.std.proofs.lemmas.Bool.{and_parts, and_from, or_cases, or_left, or_right, cases_lt, eqb-true, eq-eqb, false_from_ne_true, lt-ltb}
-use Rattle.std.proofs.{lemmas.Iterator.Adapters.position_from-zero, lemmas.List.Quantifiers.position-Some, lemmas.List.Folds.list_any_at}
-use Rattle.std.proofs.lemmas.List.Sums.{position_or_len_is}
+use Rattle.std.proofs.lemmas.{Iterator.Adapters.position_from-zero, List.Quantifiers.position-Some, List.Folds.list_any_at, List.Sums.position_or_len_is}
 use Rattle.et_base.specs.Names.{is_plain, is_unqualified, parts_of, grown, is_class_name, after_element, after_type, ends, is_field_descriptor, is_class_entry_name}
-use Rattle.jvm_model.specs.declared.program.{Program.Program, ClassRec.ClassRec}
-use Rattle.jvm_model.specs.{Builtin.builtin_count, Builtin.object_class, Library.builtin_classes, Library.builtin_defs}
+use Rattle.jvm_model.specs.{declared.program.Program.Program, declared.program.ClassRec.ClassRec, Builtin.builtin_count, Builtin.object_class}
+use Rattle.jvm_model.specs.{Library.builtin_classes, Library.builtin_defs, Linked.Linked, Linked.IsClass, Linked.is_interface_at}
 use Rattle.jvm_model.specs.Classes.{class_at, no_class, is_interface, is_below, upwards, member}
-use Rattle.jvm_model.specs.Linked.{Linked, IsClass, is_interface_at}
 use Rattle.jvm_model.proofs.{Upwards.below_trans, Upwards.upwards_step, Upwards.upwards_root, BuiltinRules.class_keeps}
-use Rattle.type_frames.specs.declared.vtype.VType.{VType}
+use Rattle.type_frames.specs.{declared.vtype.VType.VType, Descriptors.class_name, Descriptors.name_of}
 use Rattle.type_frames.specs.declared.vtype.VType.TheVariants.{Top, Int, Long, Null, Object, UninitThis, Uninit}
-use Rattle.type_frames.specs.Descriptors.{class_name, name_of}
 use Rattle.type_frames.specs.Assign.{class_named, takes_any, extends, class_fits, element_fits, is_array, object_fits, assignable}
 use Rattle.type_frames.specs.AssignLaws.{InForm, IsReference, ItselfLaw, TransitiveLaw, ReferenceLaw}
 use Rattle.et_base.proofs.Texts.{units_refl, units_true}

@@ -1,8 +1,7 @@
 -- Lists that are read item by item.
 use Rattle.std.proofs.Common.{◌≡◌, ℕ, List, [], ◌∷◌, ◌++◌, Option, Some, None, refl, ap, sym, ◌∙◌, length, ◌<◌, ◌≤◌, ◌-◌, ◌+◌, replicate, arith}
 use Rattle.std.proofs.lemmas.List.{append_assoc, append-nil, length_push, replicate-append-replicate}
-use Rattle.type_frames.specs.{MapReading.prefixed, Frames.padded}
-use Rattle.type_frames.specs.declared.vtype.{VType.VType, VType.TheVariants.Top}
+use Rattle.type_frames.specs.{declared.vtype.VType.VType, declared.vtype.VType.TheVariants.Top, MapReading.prefixed, Frames.padded}
 
 pub prefixed_nothing : {A : Type 0} (o : Option (List A)) → prefixed [] o ≡ o
 prefixed_nothing None = refl

@@ -3,19 +3,17 @@
 use Rattle.std.proofs.Common.{ℕ, zero, suc, ◌<◌, List, [], ◌∷◌, length, pos, Bool, true, false, Some, None, refl, arith}
 use Rattle.std.specs.Prelude.{codes}
 use Rattle.std.specs.List.{IsDistinct}
-use Rattle.std.proofs.lemmas.Bool.{leb-true}
-use Rattle.std.proofs.lemmas.List.Elements.{All-nil, All-from_recursion}
+use Rattle.std.proofs.lemmas.{Bool.leb-true, List.Elements.All-nil, List.Elements.All-from_recursion}
 use Rattle.jvm_model.specs.declared.values.{Value.Value, InitState.TheVariants.Running}
 use Rattle.jvm_model.specs.declared.values.Value.TheVariants as value
 use Rattle.jvm_model.specs.declared.values.Location.TheVariants as place
 use Rattle.jvm_model.specs.declared.state.{EntryKind.TheVariants.InMethod, EntryKind.TheVariants.InClass, Stage.TheVariants.Last}
 use Rattle.jvm_model.specs.declared.instr.Instr.TheVariants as form
 use Rattle.jvm_model.specs.declared.instr.Sort.TheVariants as sort
-use Rattle.jvm_model.specs.declared.program.Program.{Program}
-use Rattle.jvm_model.specs.{World.World, World.at, World.put, Library.builtin_defs, Library.builtin_classes, Library.builtin_fields, Library.builtin_methods}
-use Rattle.jvm_model.specs.{View.Exists, Descriptors.parameters, Descriptors.return_type, Entries.Entry, Initialise.parts_of, Linked.IsField, State.started}
+use Rattle.jvm_model.specs.{declared.program.Program.Program, World.World, World.at, World.put}
+use Rattle.jvm_model.specs.{Library.builtin_defs, Library.builtin_classes, Library.builtin_fields, Library.builtin_methods, View.Exists}
+use Rattle.jvm_model.specs.{Descriptors.parameters, Descriptors.return_type, Entries.Entry, Initialise.parts_of, Linked.IsField, State.started, Suite.opening}
 use Rattle.jvm_model.specs.Classes.{field_at, class_bound, is_trivial, own_interfaces, default_interfaces}
-use Rattle.jvm_model.specs.Suite.{opening}
 use Rattle.jvm_model.proofs.Examples.Parts.{program, class, body, fixed, static_int, test, int_const, get_static, put_static, call_static, returns}
 use Rattle.type_frames.specs.{Frames.index_of, Given.given_frames, Given.body_frames, Environment.given_at, Environment.is_target, StackEffect.sides}
 use Rattle.type_frames.specs.{Assign.takes_any, Assign.extends, Assign.class_fits, Assign.object_fits, Typing.incoming}

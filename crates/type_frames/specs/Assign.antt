@@ -2,11 +2,9 @@
 -- program lacks counts as one below Object (this project's).
 use Rattle.std.specs.Prelude.{ℕ, List, [], ◌∷◌, drop, Bool, true, false, not, ◌&&◌, ◌||◌, nat_eq, Option, Some, None}
 use Rattle.std.specs.{List.position_from, Str.bytes_eq}
-use Rattle.jvm_model.specs.declared.program.Program.{Program}
-use Rattle.jvm_model.specs.{Classes.class_at, Classes.is_interface, Classes.is_below, Builtin.object_class}
-use Rattle.type_frames.specs.declared.vtype.VType.{VType}
+use Rattle.jvm_model.specs.{declared.program.Program.Program, Classes.class_at, Classes.is_interface, Classes.is_below, Builtin.object_class}
+use Rattle.type_frames.specs.{declared.vtype.VType.VType, Descriptors.class_name}
 use Rattle.type_frames.specs.declared.vtype.VType.TheVariants.{Top, Int, Long, Null, Object, UninitThis, Uninit}
-use Rattle.type_frames.specs.Descriptors.{class_name}
 
 -- the number of the class of a name
 abbrev pub class_named : Program → List ℕ → Option ℕ

@@ -1,8 +1,7 @@
 -- Laws of what may stand where a type is asked.
 use Rattle.std.specs.Prelude.{◌≡◌, ◌⊎◌, ℕ, true}
 use Rattle.et_base.specs.Names.{is_class_entry_name}
-use Rattle.jvm_model.specs.declared.program.Program.{Program}
-use Rattle.jvm_model.specs.{Builtin.object_class, Linked.Linked, Linked.IsClass, Linked.is_interface_at}
+use Rattle.jvm_model.specs.{declared.program.Program.Program, Builtin.object_class, Linked.Linked, Linked.IsClass, Linked.is_interface_at}
 use Rattle.type_frames.specs.declared.vtype.{VType.VType, VType.TheVariants.Null, VType.TheVariants.Object}
 use Rattle.type_frames.specs.{Descriptors.name_of, Assign.assignable}
 

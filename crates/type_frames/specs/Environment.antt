@@ -2,10 +2,9 @@
 use Rattle.std.specs.Prelude.{ℕ, List, [], ◌∷◌, ◌++◌, map, Bool, Option, Some, None, flat_map, is_some, slice_get}
 use Rattle.jvm_model.specs.declared.{program.Program.Program, program.MethodRec.MethodRec, program.Body.Body, program.Placed.Placed, instr.Instr.Instr}
 use Rattle.jvm_model.specs.declared.instr.Instr.TheVariants as form
-use Rattle.type_frames.specs.declared.vtype.{VType.VType, Frame.Frame}
-use Rattle.type_frames.specs.{Frames.spread, Frames.index_of, Descriptors.types_of}
-use Rattle.jvm_model.specs.Descriptors.{return_type}
+use Rattle.type_frames.specs.{declared.vtype.VType.VType, declared.vtype.Frame.Frame, Frames.spread, Frames.index_of, Descriptors.types_of}
 use Rattle.type_frames.specs.Given.{is_constructor, entry_types, places}
+use Rattle.jvm_model.specs.Descriptors.{return_type}
 
 -- class: the current class; starts: the method is an instance `<init>`; args: the places of `this` and of the parameters;
 -- result: the type that is returned, none for void; given: the frames of the stack map

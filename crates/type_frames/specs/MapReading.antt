@@ -1,8 +1,7 @@
 -- What the parts of a reader of stack maps answer.
 use Rattle.std.specs.Prelude.{ℕ, List, ◌∷◌, ◌++◌, Option, Some, None, ◌≡◌, ◌+◌}
 use Rattle.jvm_model.specs.declared.program.{Body.Body, FrameRec.FrameRec}
-use Rattle.type_frames.specs.declared.{vtype.VType.VType, given.NextFrame.NextFrame}
-use Rattle.type_frames.specs.Given.{frames_from, joined}
+use Rattle.type_frames.specs.{declared.vtype.VType.VType, declared.given.NextFrame.NextFrame, Given.frames_from, Given.joined}
 
 -- a list, if it is there, behind another
 abbrev pub prefixed : {A : Type 0} → List A → Option (List A) → Option (List A)

@@ -1,16 +1,14 @@
 -- The rules of the check, each by itself, and the lowest one that is broken (JVMS 4.10.1).
 use Rattle.std.specs.Prelude.{ℕ, zero, suc, List, [], ◌∷◌, ◌++◌, length, map, drop, Bool, true, false, not, ◌&&◌, ◌||◌, cond, nat_eq, nat_lt, nat_le, ◌+◌, ◌-◌, Option, Some, None, slice_get, slice_set, slice_index_or, is_some}
 use Rattle.std.specs.List.{list_all}
-use Rattle.jvm_model.specs.declared.program.{Program.Program, Placed.Placed, Handler.Handler}
-use Rattle.jvm_model.specs.Builtin.{throwable_class}
-use Rattle.type_frames.specs.declared.vtype.{VType.VType, Frame.Frame}
+use Rattle.jvm_model.specs.{declared.program.Program.Program, declared.program.Placed.Placed, declared.program.Handler.Handler, Builtin.throwable_class}
+use Rattle.type_frames.specs.declared.{vtype.VType.VType, vtype.Frame.Frame, stack_effect.OperandConstraint.OperandConstraint, stack_effect.Reading.Reading}
 use Rattle.type_frames.specs.declared.vtype.VType.TheVariants.{Top, Int, Long, Null, Object, UninitThis, Uninit}
-use Rattle.type_frames.specs.declared.stack_effect.{OperandConstraint.OperandConstraint, Reading.Reading, LocalUpdate.LocalUpdate, Substitution.Substitution}
+use Rattle.type_frames.specs.declared.stack_effect.{LocalUpdate.LocalUpdate, Substitution.Substitution}
 use Rattle.type_frames.specs.declared.stack_effect.OperandConstraint.TheVariants.{Fits, One, Half, Ref, Raw, Small, Array, Never}
 use Rattle.type_frames.specs.declared.stack_effect.{Substitution.TheVariants.Keep, Substitution.TheVariants.All, StackEffect.StackEffect}
-use Rattle.type_frames.specs.Frames.{Slots, same, slots_of, padded}
-use Rattle.type_frames.specs.{Assign.assignable, Assign.is_array, StackEffect.is_raw, StackEffect.object_of}
-use Rattle.type_frames.specs.Environment.{Environment, given_at, made_at, leads}
+use Rattle.type_frames.specs.{Frames.Slots, Frames.same, Frames.slots_of, Frames.padded, Assign.assignable, Assign.is_array}
+use Rattle.type_frames.specs.{StackEffect.is_raw, StackEffect.object_of, Environment.Environment, Environment.given_at, Environment.made_at, Environment.leads}
 
 -- a reference, also one to an uninitialised object
 abbrev pub is_ref : VType → Bool

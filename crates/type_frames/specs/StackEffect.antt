@@ -11,14 +11,13 @@ use Rattle.jvm_model.specs.declared.instr.Op.TheVariants as op
 use Rattle.jvm_model.specs.declared.instr.Conv.TheVariants as conv
 use Rattle.jvm_model.specs.Classes.{class_at, field_at, method_at, init_name, clinit_name}
 use Rattle.jvm_model.specs.{Descriptors.parameters, Descriptors.return_type, Builtin.object_class, Builtin.string_class, Builtin.throwable_class}
-use Rattle.type_frames.specs.declared.vtype.VType.{VType}
+use Rattle.type_frames.specs.declared.{vtype.VType.VType, stack_effect.OperandConstraint.OperandConstraint, stack_effect.Reading.Reading}
 use Rattle.type_frames.specs.declared.vtype.VType.TheVariants.{Top, Int, Long, Null, Object, UninitThis, Uninit}
-use Rattle.type_frames.specs.declared.stack_effect.{OperandConstraint.OperandConstraint, Reading.Reading, LocalUpdate.LocalUpdate}
+use Rattle.type_frames.specs.declared.stack_effect.{LocalUpdate.LocalUpdate, Substitution.TheVariants.Keep, Substitution.TheVariants.All}
 use Rattle.type_frames.specs.declared.stack_effect.OperandConstraint.TheVariants.{Fits, One, Half, Ref, Raw, Small, Array, Never}
-use Rattle.type_frames.specs.declared.stack_effect.{Substitution.TheVariants.Keep, Substitution.TheVariants.All, StackEffect.StackEffect}
-use Rattle.type_frames.specs.Frames.{Slots, same, spread}
-use Rattle.type_frames.specs.Descriptors.{types_of, class_name, name_of, kind_name}
-use Rattle.type_frames.specs.{Assign.assignable, Environment.Environment, Environment.made_at}
+use Rattle.type_frames.specs.{declared.stack_effect.StackEffect.StackEffect, Frames.Slots, Frames.same, Frames.spread}
+use Rattle.type_frames.specs.{Descriptors.types_of, Descriptors.class_name, Descriptors.name_of, Descriptors.kind_name, Assign.assignable}
+use Rattle.type_frames.specs.Environment.{Environment, made_at}
 
 abbrev pub plain : List OperandConstraint → List VType → StackEffect
 plain ts gs = record { takes = ts; gives = gs; reads = []; sets = []; turn = Keep; falls = true; returns_well = true; starts_well = true; calls_well = true }

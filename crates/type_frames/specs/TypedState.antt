@@ -2,23 +2,21 @@
 -- (JVMS 4.10.1 and 2.6; initialisation entries and the driver's stage are this project's). All is said of a typed program.
 use Rattle.std.specs.Prelude.{◌≡◌, ℕ, List, [], ◌∷◌, ◌++◌, length, map, drop, ◌<◌, ◌≤◌, All, Bool, true, false, nat_eq, Option, Some, None, IfSome, slice_get, flat_map}
 use Rattle.std.specs.List.{IsDistinct}
-use Rattle.jvm_model.specs.declared.values.{Value.Value, Base.Base, Kind.Kind, InitState.TheVariants.Running}
+use Rattle.jvm_model.specs.declared.{values.Value.Value, values.Base.Base, values.Kind.Kind, values.InitState.TheVariants.Running, state.EntryKind.EntryKind}
 use Rattle.jvm_model.specs.declared.values.Value.TheVariants as value
 use Rattle.jvm_model.specs.declared.values.Kind.TheVariants as kind
 use Rattle.jvm_model.specs.declared.values.Location.TheVariants as place
-use Rattle.jvm_model.specs.declared.state.{EntryKind.EntryKind, EntryKind.TheVariants.Absent, EntryKind.TheVariants.InMethod, EntryKind.TheVariants.InClass}
-use Rattle.jvm_model.specs.declared.{state.Stage.Stage, instr.Instr.Instr}
+use Rattle.jvm_model.specs.declared.state.{EntryKind.TheVariants.Absent, EntryKind.TheVariants.InMethod, EntryKind.TheVariants.InClass, Stage.Stage}
+use Rattle.jvm_model.specs.declared.{instr.Instr.Instr, program.Program.Program, program.Body.Body, program.Placed.Placed, program.TestEntry.TestEntry}
 use Rattle.jvm_model.specs.declared.state.Stage.TheVariants.{First, Made, Built, SetUp, Called, Last}
 use Rattle.jvm_model.specs.declared.instr.Instr.TheVariants as form
-use Rattle.jvm_model.specs.declared.program.{Program.Program, Body.Body, Placed.Placed, TestEntry.TestEntry}
 use Rattle.jvm_model.specs.{World.World, World.size, World.at, World.object_at, Entries.Entry, Entries.all_entries, Entries.entry_limit, Entries.no_entries}
 use Rattle.jvm_model.specs.{View.Exists, Builtin.throwable_class, Initialise.parts_of, Kinds.class_of, Rows.constant_kind}
-use Rattle.jvm_model.specs.Classes.{class_at, field_at, method_at, is_below, is_static, is_trivial, layout, member}
 use Rattle.jvm_model.specs.{Linked.IsField, Linked.IsKind, Linked.first_or, Linked.fits_int, State.State, State.started, State.test_at}
-use Rattle.type_frames.specs.declared.vtype.{VType.VType, Frame.Frame}
+use Rattle.jvm_model.specs.Classes.{class_at, field_at, method_at, is_below, is_static, is_trivial, layout, member}
+use Rattle.type_frames.specs.{declared.vtype.VType.VType, declared.vtype.Frame.Frame, Frames.Slots, Descriptors.types_of, Descriptors.kind_name}
 use Rattle.type_frames.specs.declared.vtype.VType.TheVariants.{Top, Int, Long, Null, Object, UninitThis, Uninit}
-use Rattle.type_frames.specs.{Frames.Slots, Descriptors.types_of, Descriptors.kind_name, Assign.assignable, Given.given_frames}
-use Rattle.type_frames.specs.Environment.{Environment, environment_of, made_at}
+use Rattle.type_frames.specs.{Assign.assignable, Given.given_frames, Environment.Environment, Environment.environment_of, Environment.made_at}
 use Rattle.type_frames.specs.{StackEffect.sides, StackEffect.is_that, Typing.before}
 
 -- Values.

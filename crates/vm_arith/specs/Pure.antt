@@ -1,11 +1,10 @@
 -- What contracts say of the forms that touch nothing.
 use Rattle.std.specs.Prelude.{◌≡◌, ℕ, List, [], ◌∷◌, Bool, true, false, cond}
-use Rattle.jvm_model.specs.declared.{values.Value.Value, instr.Instr.Instr, outcome.Next.Next, program.Program.Program}
+use Rattle.jvm_model.specs.{declared.values.Value.Value, declared.instr.Instr.Instr, declared.outcome.Next.Next, declared.program.Program.Program, World.World}
 use Rattle.jvm_model.specs.declared.values.Value.TheVariants.{Int, Long, Null, Lit, Obj}
 use Rattle.jvm_model.specs.declared.instr.Instr.TheVariants as form
 use Rattle.jvm_model.specs.declared.outcome.Next.TheVariants.{Go, Fault, Raise, Enter, Leave, Over}
-use Rattle.jvm_model.specs.{World.World, Access.Access, Access.done, Classes.next_place, Classes.no_program, Entries.Entries, Entries.with_place}
-use Rattle.jvm_model.specs.Rows.{Answer, answer}
+use Rattle.jvm_model.specs.{Access.Access, Access.done, Classes.next_place, Classes.no_program, Entries.Entries, Entries.with_place, Rows.Answer, Rows.answer}
 use Rattle.jvm_model.specs.Step.{Group, moves, arith, branches, statics, fields, create, arrays, casts, calls, returns, throw, group_of, row}
 use Rattle.jvm_model.specs.View.{IsSafe, IsRow, counted, paid, counts_one, outcome}
 use Rattle.vm_frames.specs.Stack.{HasIntOnTop}

@@ -3,8 +3,7 @@ use Rattle.std.proofs.Common.{◌≡◌, ℕ, zero, suc, ◌-◌, ◌<◌, List,
 use Rattle.std.specs.{List.list_any, Option.option_or}
 use Rattle.std.proofs.{lemmas.List.Elements.filter_agree, lemmas.List.Folds.find-append}
 use Rattle.indexmap.specs.IndexSet.{insert_all}
-use Rattle.jvm_model.specs.declared.program.Program.{Program}
-use Rattle.jvm_model.specs.Builtin.{object_class}
+use Rattle.jvm_model.specs.{declared.program.Program.Program, Builtin.object_class}
 use Rattle.jvm_model.specs.Classes.{class_at, class_bound, method_at, member, is_interface, upwards_in, upwards}
 use Rattle.jvm_model.specs.Selection.{declared_in, special_path, is_open_like, candidates, all_interfaces, kept_of, redeclares, has_code, one_with_code, kept_method}
 use Rattle.member_lookup.specs.Walks.{is_kept}

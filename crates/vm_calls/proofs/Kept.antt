@@ -3,8 +3,7 @@ use Rattle.std.proofs.Common.{◌≡◌, ℕ, ◌<◌, List, length, slice_get, 
 use Rattle.std.proofs.lemmas.{Bool.cases_Bool, Bool.eqb-true, Bool.eqb-false, Option.get_or_from_slice_get}
 use Rattle.jvm_model.specs.declared.program.Program.{Program}
 use Rattle.jvm_model.proofs.Ranges.{default_in}
-use Rattle.vm_calls.specs.declared.selections.Known.{Known}
-use Rattle.vm_calls.specs.Choices.{IsKnown, AreKnown}
+use Rattle.vm_calls.specs.{declared.selections.Known.Known, Choices.IsKnown, Choices.AreKnown}
 
 pub none_known : (p : Program) (n : ℕ) → AreKnown p (replicate n None)
 none_known p n i = subst (λ (o : Option Known). IfSome o (λ k. IsKnown p k)) (sym (default_in n i None)) tt

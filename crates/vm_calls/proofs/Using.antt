@@ -1,8 +1,7 @@
 -- The row that uses a class.
 use Rattle.std.proofs.Common.{◌≡◌, ℕ, sym, ap, ◌∙◌}
 use Rattle.jvm_model.specs.declared.instr.Instr.TheVariants as form
-use Rattle.jvm_model.specs.declared.program.Program.{Program}
-use Rattle.jvm_model.specs.{Classes.method_at, Entries.Entries, Rows.using}
+use Rattle.jvm_model.specs.{declared.program.Program.Program, Classes.method_at, Entries.Entries, Rows.using}
 use Rattle.jvm_model.specs.RowsCalls.{row_calls, calls, argument_count}
 
 pub static_uses : (p q r : Program) (m c n : ℕ) (s : Entries) → q ≡ p → r ≡ p → c ≡ (method_at q m).class → n ≡ argument_count r m → row_calls p (form.InvokeStatic m) s ≡ using p c s (calls p m n s)

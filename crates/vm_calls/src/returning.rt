@@ -1,9 +1,8 @@
 //! Returns (JVMS 6.5).
 
 ghost use Rattle.std.specs.Prelude.{◌≡◌, ◌<◌, ◌∷◌, [], drop, get_or, length};
-ghost use Rattle.jvm_model.specs.{World.World, Entries.with_stack, Narrow.narrow};
+ghost use Rattle.jvm_model.specs.{declared.values.Value.TheVariants.Null, World.World, Entries.with_stack, Narrow.narrow};
 ghost use Rattle.jvm_model.specs.declared.instr.Instr.TheVariants as form;
-ghost use Rattle.jvm_model.specs.declared.values.Value.TheVariants.{Null};
 ghost use Rattle.vm_mem.specs.Refines.{IsReady, Makes, Refines};
 ghost use Rattle.vm_calls.specs.Calls.{HasRoomBelow, hands_row, return_row};
 

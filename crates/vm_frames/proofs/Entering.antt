@@ -5,8 +5,7 @@ use Rattle.std.proofs.lemmas.Bool.Decides.{nat_tests}
 use Rattle.jvm_model.specs.declared.values.{Value.Value, Value.TheVariants.Null}
 use Rattle.jvm_model.specs.declared.state.{EntryKind.EntryKind, EntryKind.TheVariants.Absent, EntryKind.TheVariants.InMethod, EntryKind.TheVariants.InClass}
 use Rattle.jvm_model.specs.Entries.{Entry, Entries, entries_of, with_stack, with_entry, popped_entry, all_entries, is_full, filled, slots_of}
-use Rattle.vm_frames.specs.declared.extent.Extent.{Extent}
-use Rattle.vm_frames.specs.Stack.{HasRoom, frame_with, called_with}
+use Rattle.vm_frames.specs.{declared.extent.Extent.Extent, Stack.HasRoom, Stack.frame_with, Stack.called_with}
 use Rattle.vm_frames.specs.Extents.{downwards, upwards, entry_of, entries_at, saved_by, no_extent, IsTaken, IsWithin, AreStacked, IsStanding, HasFrame}
 use Rattle.vm_frames.proofs.Lower.{entry_same, below_same, take_lower}
 use Rattle.vm_frames.proofs.Tops.{downwards_none, length_downwards, top_is, entries-push, standing-move, standing-raised}

@@ -4,9 +4,8 @@ use Rattle.std.proofs.lemmas.List.{take-set-le}
 use Rattle.jvm_model.specs.declared.values.{Value.Value, Value.TheVariants.Null}
 use Rattle.jvm_model.specs.declared.state.{EntryKind.EntryKind, EntryKind.TheVariants.Absent, EntryKind.TheVariants.InMethod, EntryKind.TheVariants.InClass}
 use Rattle.jvm_model.specs.{Entries.Entries, Entries.with_stack, RowsMoves.with_local}
-use Rattle.vm_frames.specs.declared.extent.Extent.{Extent}
+use Rattle.vm_frames.specs.{declared.extent.Extent.Extent, Stack.operand_limit, Stack.HasRoom}
 use Rattle.vm_frames.specs.Extents.{downwards, upwards, entry_of, entries_at, IsStanding}
-use Rattle.vm_frames.specs.Stack.{operand_limit, HasRoom}
 use Rattle.vm_frames.proofs.Lower.{downwards_same, upwards_same, below_same}
 
 pub length_upwards : (xs : List Value) (b n : ℕ) → length (upwards xs b n) ≡ n

@@ -3,8 +3,7 @@ use Rattle.std.specs.Prelude.{ℕ, zero, suc, List, [], ◌∷◌, ◌+◌, ◌-
 use Rattle.jvm_model.specs.declared.values.{Value.Value, Value.TheVariants.Null}
 use Rattle.jvm_model.specs.declared.state.{EntryKind.EntryKind, EntryKind.TheVariants.Absent, EntryKind.TheVariants.InMethod, EntryKind.TheVariants.InClass}
 use Rattle.jvm_model.specs.Entries.{Entry, Entries, entry_limit, filled, slots_of}
-use Rattle.vm_frames.specs.declared.extent.Extent.{Extent}
-use Rattle.vm_frames.specs.Stack.{operand_limit}
+use Rattle.vm_frames.specs.{declared.extent.Extent.Extent, Stack.operand_limit}
 
 -- n values below the place t, downwards
 abbrev pub downwards : List Value → ℕ → ℕ → List Value

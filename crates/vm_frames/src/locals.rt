@@ -2,8 +2,7 @@
 
 ghost use Rattle.std.specs.Prelude.{◌≡◌, ◌<◌, ◌≤◌, ◌+◌, ◌-◌, ◌*◌, ◌^◌, ◌++◌, ◌∷◌, [], length, take, drop, get_or, replicate, IfOk, OnErr};
 ghost use Rattle.std.specs.Option.{option_to_list};
-ghost use Rattle.jvm_model.specs.declared.values.Value.TheVariants.{Null};
-ghost use Rattle.jvm_model.specs.Entries.{slots_of, filled};
+ghost use Rattle.jvm_model.specs.{declared.values.Value.TheVariants.Null, Entries.slots_of, Entries.filled};
 ghost use Rattle.vm_frames.specs.Extents.{HasFrame};
 
 use crate::slots::Slots;

@@ -3,8 +3,7 @@
 ghost use Rattle.std.specs.Prelude.{◌≡◌, ◌<◌, ◌-◌, ◌^◌, ◌++◌, [], length, set, get_or, replicate, IfOk, OnErr};
 ghost use Rattle.jvm_model.specs.declared.values.Value.TheVariants.{Int, Long, Null};
 ghost use Rattle.jvm_model.specs.RowsMoves.{is_long};
-ghost use Rattle.vm_frames.specs.declared.slots.Tag.TheVariants.{OfNull};
-ghost use Rattle.vm_frames.specs.Slots.{IsInt, IsLong, Fit, value_of};
+ghost use Rattle.vm_frames.specs.{declared.slots.Tag.TheVariants.OfNull, Slots.IsInt, Slots.IsLong, Slots.Fit, Slots.value_of};
 
 use et_base::NoMemory;
 use jvm_model::Value;

@@ -3,11 +3,10 @@ use Rattle.std.proofs.Common.{◌≡◌, ℕ, suc, ◌+◌, ◌^◌, ◌-◌, �
 use Rattle.std.specs.{Vec.vec_len, List.zip}
 use Rattle.std.proofs.lemmas.Bool.{cases_Bool}
 use Rattle.std.proofs.lemmas.List.{get_or_default, get_or-take, get_or-drop, drop-set-lt, length-drop, length-take-le, nil_from_length}
-use Rattle.jvm_model.specs.declared.program.Program.{Program}
-use Rattle.jvm_model.specs.declared.values.{Value.Value, Value.TheVariants.Null, Kind.Kind, Kind.TheVariants.Class, Kind.TheVariants.Array, Head.Head}
+use Rattle.jvm_model.specs.declared.{program.Program.Program, values.Value.Value, values.Value.TheVariants.Null, values.Kind.Kind}
+use Rattle.jvm_model.specs.{declared.values.Kind.TheVariants.Class, declared.values.Kind.TheVariants.Array, declared.values.Head.Head, View.keys}
 use Rattle.jvm_model.specs.World.{Object, look, keep, put_at, no_object}
 use Rattle.jvm_model.specs.Classes.{member, layout, field_at, default_of, fields_of, elems_of, blank}
-use Rattle.jvm_model.specs.View.{keys}
 use Rattle.vm_heap.specs.{Entries.Entry, Entries.no_entry, Held.Held}
 use Rattle.vm_heap.specs.Objects.{field_numbers, new_cells, cell_count, object_of, objects_of, IsWhole, IsHeap}
 use Rattle.vm_tables.specs.FieldPlaces.{place, IsHeld}

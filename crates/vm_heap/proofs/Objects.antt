@@ -2,8 +2,7 @@
 use Rattle.std.proofs.Common.{◌≡◌, ℕ, zero, suc, ◌+◌, ◌<◌, ◌≤◌, List, [], ◌∷◌, ◌++◌, length, get_or, set, take, drop, map, Option, refl, sym, ap, ◌∙◌, arith, length-append, add_assoc}
 use Rattle.std.proofs.lemmas.List.{drop-drop, drop-set-lt, drop-set-add, take-set-le, take-append-le, drop-append-le, length-set, nil_from_length, length-drop}
 use Rattle.std.proofs.Math.Seq.{take-set-lt, take-length}
-use Rattle.jvm_model.specs.declared.{program.Program.Program, values.Value.Value}
-use Rattle.jvm_model.specs.World.{Object}
+use Rattle.jvm_model.specs.{declared.program.Program.Program, declared.values.Value.Value, World.Object}
 use Rattle.vm_heap.specs.Entries.{Entry, header_of}
 use Rattle.vm_heap.specs.Objects.{cell_count, object_of, objects_of, total, AreBeside, IsWhole}
 

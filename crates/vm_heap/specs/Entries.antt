@@ -1,7 +1,6 @@
 -- The headers of objects, and their texts.
 use Rattle.std.specs.Prelude.{ℕ, List, [], ◌∷◌, Option, None}
-use Rattle.jvm_model.specs.declared.values.Head.{Head}
-use Rattle.jvm_model.specs.World.{no_object}
+use Rattle.jvm_model.specs.{declared.values.Head.Head, World.no_object}
 use Rattle.vm_heap.specs.declared.header.Header.{Header}
 
 -- an object's header and its text, once one was written

@@ -1,7 +1,6 @@
 -- What a heap is seen as.
 use Rattle.std.specs.Prelude.{List}
-use Rattle.jvm_model.specs.declared.program.Program.{Program}
-use Rattle.jvm_model.specs.World.{Object}
+use Rattle.jvm_model.specs.{declared.program.Program.Program, World.Object}
 
 -- the program that it was made for, and its objects
 pub record Held : Type 0 where

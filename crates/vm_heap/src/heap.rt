@@ -1,7 +1,6 @@
 ghost use Rattle.std.specs.Prelude.{◌≡◌, ◌<◌, ◌+◌, ◌^◌, [], ◌∷◌, ◌++◌, length, map, replicate, set, get_or, nat_eq, true, Some, IfOk, OnOk, OnErr};
-ghost use Rattle.jvm_model.specs.declared.values.Value.TheVariants.{Null};
+ghost use Rattle.jvm_model.specs.{declared.values.Value.TheVariants.Null, Classes.member, Classes.blank, View.keys};
 ghost use Rattle.jvm_model.specs.World.{look, keep, put_at, text_or_empty, no_object};
-ghost use Rattle.jvm_model.specs.{Classes.member, Classes.blank, View.keys};
 ghost use Rattle.vm_heap.specs.Objects.{new_cells};
 
 use crate::header::Header;

@@ -1,8 +1,7 @@
 -- Entries by number.
 use Rattle.std.proofs.Common.{◌≡◌, ℕ, suc, ◌<◌, List, [], ◌∷◌, ◌++◌, length, get_or, set, take, drop, nat_eq, true, refl, sym, ap, ◌∙◌, drop-cons}
 use Rattle.std.proofs.lemmas.{Bool.eq-eqb, List.set_split}
-use Rattle.jvm_model.specs.declared.values.Value.{Value}
-use Rattle.jvm_model.specs.{Classes.member, View.keys, World.keep}
+use Rattle.jvm_model.specs.{declared.values.Value.Value, Classes.member, View.keys, World.keep}
 
 -- what is kept where the first i entries haven't the number
 pub record Passed (xs : List (ℕ × Value)) (i f : ℕ) (v : Value) : Type 0 where

@@ -1,7 +1,6 @@
 -- Layouts of all class numbers, and the object that was just made.
 use Rattle.std.proofs.Common.{◌≡◌, ℕ, ◌<◌, ◌≤◌, List, [], ◌∷◌, ◌++◌, length, get_or, None, refl, sym, ap, ◌∙◌, arith, inl, inr}
-use Rattle.std.proofs.lemmas.{Bool.cases_lt, List.length-replicate}
-use Rattle.std.proofs.{Math.ListN.get_or-eq_default, Math.Seq.get_or-append_seam}
+use Rattle.std.proofs.{lemmas.Bool.cases_lt, lemmas.List.length-replicate, Math.ListN.get_or-eq_default, Math.Seq.get_or-append_seam}
 use Rattle.jvm_model.specs.declared.values.{Value.Value, Head.Head, Kind.Kind, Kind.TheVariants.Class, Kind.TheVariants.Array}
 use Rattle.jvm_model.specs.declared.program.Program.{Program}
 use Rattle.jvm_model.specs.World.{World, Object, size, object_at, make_object, no_object}

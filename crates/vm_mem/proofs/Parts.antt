@@ -1,12 +1,10 @@
 -- Lists that are made part by part.
 use Rattle.std.proofs.Common.{◌≡◌, ◌≢◌, ℕ, suc, ◌+◌, ◌<◌, List, [], ◌∷◌, ◌++◌, length, get_or, take, drop, map, false, Option, Some, refl, sym, ap, ◌∙◌, arith, add-one, drop-cons, append_assoc}
 use Rattle.std.specs.Str.{bytes_eq}
-use Rattle.std.proofs.lemmas.Bool.{false_from_ne_true}
+use Rattle.std.proofs.lemmas.{Bool.false_from_ne_true, Slice.Eq.bytes_eq-Decides}
 use Rattle.std.proofs.lemmas.List.{get_or_default, get_or-take, length-take-le, take_more, map-append}
-use Rattle.std.proofs.lemmas.Slice.Eq.{bytes_eq-Decides}
 use Rattle.sim_store.specs.Stored.{Stored}
-use Rattle.jvm_model.specs.{Linked.IsDistinct, World.keep, Access.elems_made, Access.write_of}
-use Rattle.jvm_model.specs.declared.{values.Value.Value, program.Program.Program}
+use Rattle.jvm_model.specs.{declared.values.Value.Value, declared.program.Program.Program, Linked.IsDistinct, World.keep, Access.elems_made, Access.write_of}
 use Rattle.jvm_model.specs.declared.values.Location.TheVariants as place
 use Rattle.vm_mem.specs.Noting.{noted_by}
 

@@ -1,8 +1,7 @@
 -- Touches with the numbers of their tests.
 use Rattle.std.specs.Prelude.{ℕ, List, ◌++◌, map, flat_map}
 use Rattle.jvm_model.specs.declared.values.Touch.{Touch}
-use Rattle.vm_mem.specs.declared.noted.Noted.{Noted}
-use Rattle.vm_mem.specs.Trace.{Trace}
+use Rattle.vm_mem.specs.{declared.noted.Noted.Noted, Trace.Trace}
 
 abbrev pub noted_by : ℕ → Touch → Noted
 noted_by t x = record { test = t; touch = x }

@@ -1,9 +1,8 @@
 -- Files and properties as parts of the world.
 use Rattle.std.specs.Prelude.{ℕ, List, Option}
 use Rattle.sim_store.specs.declared.store.{Part.Part, Part.TheVariants.File, Part.TheVariants.Prop}
-use Rattle.jvm_model.specs.declared.values.Location.{Location}
+use Rattle.jvm_model.specs.{declared.values.Location.Location, World.World, World.at, World.put}
 use Rattle.jvm_model.specs.declared.values.Location.TheVariants as place
-use Rattle.jvm_model.specs.World.{World, at, put}
 
 abbrev pub place_in : Part → List ℕ → Location
 place_in File n = place.File n

@@ -1,6 +1,5 @@
 ghost use Rattle.std.specs.Prelude.{◌≡◌, IfOk};
-ghost use Rattle.jvm_model.specs.declared.values.Kind.TheVariants.{Class};
-ghost use Rattle.jvm_model.specs.{Classes.blank, Classes.fields_of, Linked.Linked};
+ghost use Rattle.jvm_model.specs.{declared.values.Kind.TheVariants.Class, Classes.blank, Classes.fields_of, Linked.Linked};
 ghost use Rattle.jvm_model.specs.Classes as classes;
 
 use crate::object::Object;

@@ -3,9 +3,8 @@ ghost use Rattle.std.specs.Borrow.{sem};
 ghost use mathlib.Core.Option.{none};
 ghost use denote.Follow.{follows_so};
 ghost use Rattle.jvm_model.specs.World.{World, at, put, size, make_object};
-ghost use Rattle.jvm_model.specs.Access.{read_of, write_of, made};
-ghost use Rattle.jvm_model.specs.{View.Exists, Classes.blank};
-ghost use Rattle.jvm_model.specs.declared.{program.Program.Program, values.Touch.Touch};
+ghost use Rattle.jvm_model.specs.{declared.program.Program.Program, declared.values.Touch.Touch, Access.read_of, Access.write_of, Access.made, View.Exists};
+ghost use Rattle.jvm_model.specs.Classes.{blank};
 ghost use Rattle.jvm_model.specs.declared.values.Location.TheVariants as place;
 ghost use Rattle.vm_mem.specs.{Trace.Trace, Trace.Extends, Trace.next_test, Stores.place_in, Stores.found_in, Stores.put_in};
 

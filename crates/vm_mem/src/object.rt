@@ -1,7 +1,5 @@
 ghost use Rattle.std.specs.Prelude.{◌≡◌, ◌<◌, ◌++◌, [], length, nat_eq, true, false, None, Some, get_or, OnOk};
-ghost use Rattle.jvm_model.specs.declared.values.Value.TheVariants.{Null};
-ghost use Rattle.jvm_model.specs.World.{look, keep, put_at, text_or_empty};
-ghost use Rattle.jvm_model.specs.{Classes.member, View.keys};
+ghost use Rattle.jvm_model.specs.{declared.values.Value.TheVariants.Null, World.look, World.keep, World.put_at, World.text_or_empty, Classes.member, View.keys};
 
 use crate::text_cell::TextCell;
 use et_base::{NoMemory, Units};

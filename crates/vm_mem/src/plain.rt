@@ -1,6 +1,5 @@
 ghost use Rattle.std.specs.Prelude.{◌≡◌, ◌<◌, [], map, IfOk, Some};
-ghost use Rattle.jvm_model.specs.declared.values.InitState.TheVariants.{Idle};
-ghost use Rattle.jvm_model.specs.{Linked.Linked, Linked.IsDistinct, World.object_at, World.size};
+ghost use Rattle.jvm_model.specs.{declared.values.InitState.TheVariants.Idle, Linked.Linked, Linked.IsDistinct, World.object_at, World.size};
 ghost use Rattle.jvm_model.specs.Suite as suite;
 
 use crate::layouts::Layouts;

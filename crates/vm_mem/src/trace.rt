@@ -1,7 +1,6 @@
 ghost use Rattle.std.specs.Prelude.{◌≡◌, ◌≤◌, List, [], ◌∷◌, ◌++◌, length, map, true, None, IfOk, OnOk};
-ghost use Rattle.jvm_model.specs.{Access.made, Access.fields_made, Access.elems_made, Linked.Linked};
+ghost use Rattle.jvm_model.specs.{declared.values.Touch.Touch, Access.made, Access.fields_made, Access.elems_made, Linked.Linked};
 ghost use Rattle.jvm_model.specs.Suite as suite;
-ghost use Rattle.jvm_model.specs.declared.values.Touch.{Touch};
 ghost use Rattle.vm_mem.specs.{Trace.Trace, Trace.empty_trace, Noting.noted_by, Noting.all_noted};
 ghost use Rattle.vm_mem.specs.Stores as stores;
 

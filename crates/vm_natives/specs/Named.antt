@@ -1,9 +1,8 @@
 -- What methods do with a name, and perhaps a text: the parts of their rows.
 use Rattle.std.specs.Prelude.{ℕ, List, ◌∷◌, ◌++◌, length, ◌+◌, Bool, is_some, Option, Some, None}
-use Rattle.jvm_model.specs.declared.values.Value.{Value}
+use Rattle.jvm_model.specs.{declared.values.Value.Value, World.text_or_empty, Rows.on_text, Access.read, Access.write, Access.spend}
 use Rattle.jvm_model.specs.declared.values.Location.TheVariants as place
-use Rattle.jvm_model.specs.{World.text_or_empty, Rows.on_text}
-use Rattle.jvm_model.specs.{Access.read, Access.write, Access.spend, NativesOutside.one_text, NativesOutside.two_texts, NativesOutside.changes_property}
+use Rattle.jvm_model.specs.NativesOutside.{one_text, two_texts, changes_property}
 use Rattle.jvm_model.specs.Working.{Working, operands, with_operands, answers, answers_found, truth}
 use Rattle.vm_mem.specs.Refines.{Row}
 use Rattle.vm_natives.specs.declared.named.{Named.Named, Change.Change}

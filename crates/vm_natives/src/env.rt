@@ -1,9 +1,8 @@
 //! The methods of electric.Env.
 
 ghost use Rattle.std.specs.Prelude.{◌≡◌};
-ghost use Rattle.jvm_model.specs.declared.library.Native.{Native};
+ghost use Rattle.jvm_model.specs.{declared.library.Native.Native, World.World};
 ghost use Rattle.jvm_model.specs.NativesOutside as natives;
-ghost use Rattle.jvm_model.specs.World.{World};
 ghost use Rattle.vm_frames.specs.Stack.{HasRoom};
 ghost use Rattle.vm_mem.specs.Refines.{IsReady, IsNext, Refines, Makes};
 ghost use Rattle.vm_natives.specs.Rows.{with_own, env_row};

@@ -4,8 +4,7 @@ ghost use Rattle.vm_frames.specs.Stack.{HasRoom};
 ghost use Rattle.vm_mem.specs.Refines.{IsReady, IsNext, Refines, Makes};
 ghost use Rattle.vm_natives.specs.Rows.{with_own};
 ghost use Rattle.vm_natives.specs.Named.{name_row, named_row, given_row, texts_row, change_row, priced_row};
-ghost use Rattle.jvm_model.specs.declared.outcome.Own.{Own};
-ghost use Rattle.jvm_model.specs.World.{World};
+ghost use Rattle.jvm_model.specs.{declared.outcome.Own.Own, World.World};
 
 use crate::files::{append_to, delete_at, exists_at, read_at, write_at};
 use crate::system::{change_property, property_at};

@@ -1,8 +1,7 @@
 //! The methods of java.lang.String.
 
 ghost use Rattle.std.specs.Prelude.{◌≡◌, ◌≢◌};
-ghost use Rattle.jvm_model.specs.declared.{library.Native.Native, outcome.Own.Own, values.Value.TheVariants.Obj};
-ghost use Rattle.jvm_model.specs.World.{World};
+ghost use Rattle.jvm_model.specs.{declared.library.Native.Native, declared.outcome.Own.Own, declared.values.Value.TheVariants.Obj, World.World};
 ghost use Rattle.vm_frames.specs.Stack.{HasRoom};
 ghost use Rattle.vm_mem.specs.Refines.{IsReady, IsNext, Refines, Makes};
 ghost use Rattle.vm_natives.specs.Rows.{with_own, string_row, unit_row, compared_row, same_row, concat_row, concat_text_row, cut_row, joined_row, part_row};

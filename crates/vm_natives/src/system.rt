@@ -1,7 +1,6 @@
 //! The methods of java.lang.System.
 
-ghost use Rattle.jvm_model.specs.declared.library.Native.{Native};
-ghost use Rattle.jvm_model.specs.World.{World};
+ghost use Rattle.jvm_model.specs.{declared.library.Native.Native, World.World};
 ghost use Rattle.vm_frames.specs.Stack.{HasRoom};
 ghost use Rattle.vm_mem.specs.Refines.{IsReady, IsNext, Refines, Makes};
 ghost use Rattle.vm_natives.specs.{Rows.with_own, Rows.system_row, Named.property_row, Named.property_change_row};

@@ -1,9 +1,8 @@
 //! How the calls of built-in methods end.
 
 ghost use Rattle.std.specs.Prelude.{◌≡◌};
-ghost use Rattle.jvm_model.specs.declared.{outcome.Own.Own, program.Program.Program};
+ghost use Rattle.jvm_model.specs.{declared.outcome.Own.Own, declared.program.Program.Program, World.World};
 ghost use Rattle.jvm_model.specs.Working as working;
-ghost use Rattle.jvm_model.specs.World.{World};
 ghost use Rattle.vm_frames.specs.Stack.{HasRoom};
 ghost use Rattle.vm_mem.specs.Refines.{IsNext, Refines, Makes};
 ghost use Rattle.vm_natives.specs.Rows.{with_own, end_row, value_row, costly_row, text_row};

@@ -1,7 +1,6 @@
 -- Sums of costs that stay at a greatest number.
 use Rattle.std.proofs.Common.{◌≡◌, ◌≤◌, ℕ, zero, suc, ◌+◌, ◌*◌, ap, ◌∙◌, arith, ⊎_elim}
-use Rattle.std.proofs.Math.Nat.{suc-mul}
-use Rattle.std.proofs.lemmas.Bool.{cases_lt}
+use Rattle.std.proofs.{Math.Nat.suc-mul, lemmas.Bool.cases_lt}
 use Rattle.std.specs.Prelude.{min, List, ◌∷◌}
 use Rattle.jvm_model.specs.RowsCreate.{nest_sum}
 

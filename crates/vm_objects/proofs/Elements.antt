@@ -2,9 +2,8 @@
 use Rattle.std.proofs.Common.{◌≡◌, ℕ, suc, List, [], ◌∷◌, ◌++◌, ◌-◌, ◌<◌, ◌≤◌, ◌+◌, ap, ◌∙◌, subst, arith}
 use Rattle.jvm_model.specs.declared.{values.Touch.Touch, values.Value.Value, values.Kind.Kind, values.Value.TheVariants.Obj, program.Program.Program}
 use Rattle.jvm_model.specs.declared.values.Location.TheVariants as place
-use Rattle.jvm_model.specs.{World.World, World.put, Entries.Entries, Rows.goes_on}
+use Rattle.jvm_model.specs.{World.World, World.put, Entries.Entries, Rows.goes_on, RowsCreate.children, RowsCreate.nest, RowsCreate.nested}
 use Rattle.jvm_model.specs.Access.{Access, done, write, bind, write_of}
-use Rattle.jvm_model.specs.RowsCreate.{children, nest, nested}
 use Rattle.jvm_model.specs.View.{counted, ended, and_then, touched, Exists, IsSafe, Any}
 use Rattle.vm_mem.specs.Trace.{Trace}
 use Rattle.jvm_model.proofs.Binds.{counted_bind, touched_bind, safe_begins, safe_rest}

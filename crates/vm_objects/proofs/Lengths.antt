@@ -5,8 +5,7 @@ use Rattle.std.proofs.lemmas.{Result.IfOk-weaker, List.drop-set, List.take_all, 
 use Rattle.jvm_model.specs.declared.{values.Value.Value, values.Kind.Kind, values.Touch.Touch, outcome.Next.Next, program.Program.Program}
 use Rattle.jvm_model.specs.declared.values.Value.TheVariants.{Int, Long, Null, Lit, Obj}
 use Rattle.jvm_model.specs.declared.instr.Instr.TheVariants as form
-use Rattle.jvm_model.specs.{World.World, Entries.Entries, Entries.with_stack}
-use Rattle.jvm_model.specs.RowsCreate.{row_create, sized, nested}
+use Rattle.jvm_model.specs.{World.World, Entries.Entries, Entries.with_stack, RowsCreate.row_create, RowsCreate.sized, RowsCreate.nested}
 use Rattle.jvm_model.specs.View.{IsSafe, IsRow, counted, paid, counts_one, touched}
 use Rattle.vm_mem.specs.{Trace.Trace, Refines.Row, Refines.Refines, Refines.Traces, Refines.Makes}
 use Rattle.vm_objects.specs.{Forms.create_row, Forms.count_of, Nests.HasInts, Nests.nested_row, Nests.taken}

@@ -1,8 +1,7 @@
 -- The rows that use a class.
 use Rattle.std.proofs.Common.{◌≡◌, ℕ, Bool, false, sym, ap, ◌∙◌}
 use Rattle.jvm_model.specs.declared.instr.Instr.TheVariants as form
-use Rattle.jvm_model.specs.declared.program.Program.{Program}
-use Rattle.jvm_model.specs.{Classes.field_at, Entries.Entries, Rows.using}
+use Rattle.jvm_model.specs.{declared.program.Program.Program, Classes.field_at, Entries.Entries, Rows.using}
 use Rattle.jvm_model.specs.RowsStatics.{row_statics, read_static, write_static}
 use Rattle.jvm_model.specs.RowsCreate.{row_create, new_object, is_bare}
 

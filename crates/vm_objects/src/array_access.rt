@@ -4,9 +4,8 @@
 ghost use Rattle.std.specs.Prelude.{◌≡◌, ◌<◌, ◌-◌, ◌∷◌, [], IfOk, OnOk};
 ghost use Rattle.jvm_model.specs.declared.instr.Instr.TheVariants as form;
 ghost use Rattle.jvm_model.specs.declared.instr.Cell.TheVariants as cell;
-ghost use Rattle.jvm_model.specs.declared.outcome.Next.{Next};
+ghost use Rattle.jvm_model.specs.{declared.outcome.Next.Next, World.put, Access.write_of, Entries.with_place, RowsArrays.element_letter, View.Exists};
 ghost use Rattle.jvm_model.specs.declared.values.Location.TheVariants as place;
-ghost use Rattle.jvm_model.specs.{World.put, Access.write_of, Entries.with_place, RowsArrays.element_letter, View.Exists};
 ghost use Rattle.vm_mem.specs.{Trace.Extends, Refines.IsReady, Refines.IsNext, Refines.Makes};
 ghost use Rattle.vm_objects.specs.Forms.{array_row, store_row, place_in};
 

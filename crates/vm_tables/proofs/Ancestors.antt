@@ -1,11 +1,9 @@
 -- What stands above a class are classes; tables of it for all class numbers.
 use Rattle.std.proofs.Common.{replicate, set, take, get_or-set_other, get_or-set_same, ◌≡◌, ℕ, zero, suc, ◌+◌, ◌<◌, ◌≤◌, List, [], ◌∷◌, length, get_or, flat_map, All, Bool, true, false, ◌||◌, nat_eq, refl, sym, ◌∙◌, ap, subst, inl, inr, arith}
 use Rattle.std.proofs.lemmas.Bool.{cases_Bool, cases_lt, or_cases, or_left, or_right, eqb-true, eqb-false}
-use Rattle.std.proofs.{Math.Bool.or-false, Math.Bool.or-true, lemmas.List.Elements.All-from_get_or}
-use Rattle.std.proofs.lemmas.List.{get_or_past, take_more}
-use Rattle.jvm_model.specs.declared.program.Program.{Program}
+use Rattle.std.proofs.{Math.Bool.or-false, Math.Bool.or-true, lemmas.List.Elements.All-from_get_or, lemmas.List.get_or_past, lemmas.List.take_more}
+use Rattle.jvm_model.specs.{declared.program.Program.Program, Linked.IsClass, Linked.Linked, Selection.all_interfaces}
 use Rattle.jvm_model.specs.Classes.{class_at, no_class, class_bound, member, upwards, lineage_in, own_interfaces, implements, is_below}
-use Rattle.jvm_model.specs.{Linked.IsClass, Linked.Linked, Selection.all_interfaces}
 use Rattle.jvm_model.proofs.{Interfaces.member_first, Interfaces.member-first_mentions, Ranges.default_in, Upwards.member_class, Walks.all_member}
 use Rattle.member_lookup.proofs.Ancestry.{any_append, member_get}
 use Rattle.vm_tables.specs.Hierarchy.{AreOwn, AreInterfaces, AreImplemented, AreBelow}

@@ -1,7 +1,6 @@
 -- Superinterfaces noted one after another.
 use Rattle.std.proofs.Common.{◌≡◌, ℕ, ◌+◌, ◌*◌, ◌<◌, List, [], ◌∷◌, ◌++◌, append-nil, length, get_or, take, flat_map, All, false, true, nat_eq, sym, ◌∙◌, ap, subst, inl, inr, arith, length-append}
-use Rattle.std.proofs.lemmas.{Bool.or_cases, Bool.eqb-true, List.take_more}
-use Rattle.std.proofs.{lemmas.List.Concat.flat_map-append, lemmas.List.Folds.length-flat_map-take}
+use Rattle.std.proofs.lemmas.{Bool.or_cases, Bool.eqb-true, List.take_more, List.Concat.flat_map-append, List.Folds.length-flat_map-take}
 use Rattle.indexmap.specs.IndexSet.{insert_key, insert_all}
 use Rattle.jvm_model.specs.declared.program.Program.{Program}
 use Rattle.jvm_model.specs.{Classes.class_at, Classes.member, Classes.first_mentions, Classes.own_interfaces, Linked.IsClass, Linked.Linked}

@@ -1,11 +1,9 @@
 -- The layout of a class begins with that of each class above it, so a field has one place.
 use Rattle.std.proofs.Common.{◌≡◌, ℕ, zero, suc, ◌+◌, ◌<◌, ◌≤◌, List, [], ◌∷◌, ◌++◌, length, get_or, filter, take, All, Bool, true, false, not, cond, nat_eq, refl, sym, ◌∙◌, ap, subst, inl, inr, arith, Option, Some, None}
 use Rattle.std.proofs.lemmas.Bool.{cases_Bool, cases_lt, or_cases, or_left, or_right}
-use Rattle.std.proofs.lemmas.List.{get_or_past}
-use Rattle.std.proofs.{lemmas.List.Elements.All-from_get_or, Math.Seq.take-append_seam}
-use Rattle.jvm_model.specs.declared.program.Program.{Program}
+use Rattle.std.proofs.{lemmas.List.get_or_past, lemmas.List.Elements.All-from_get_or, Math.Seq.take-append_seam}
+use Rattle.jvm_model.specs.{declared.program.Program.Program, Linked.IsClass, Linked.IsField, Linked.Linked}
 use Rattle.jvm_model.specs.Classes.{class_at, field_at, no_class, class_bound, is_static, member, upwards_in, plain_fields, layout_in, layout}
-use Rattle.jvm_model.specs.Linked.{IsClass, IsField, Linked}
 use Rattle.jvm_model.proofs.{Upwards.superclass_is, Upwards.upwards_step, Upwards.upwards_root, Walks.all_member}
 use Rattle.member_lookup.proofs.Ancestry.{any_append, member_get}
 use Rattle.vm_tables.specs.FieldPlaces.{place, AreFieldPlaces, IsHeld, HaveEntries}

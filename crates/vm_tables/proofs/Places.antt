@@ -1,7 +1,6 @@
 -- The numbers of instructions by byte place.
 use Rattle.std.proofs.Common.{inl, inr, ◌≡◌, ◌≢◌, ℕ, zero, suc, ◌<◌, ◌≤◌, ◌+◌, ◌-◌, List, [], ◌∷◌, ◌++◌, length, get_or, set, take, drop, cond, eqb, Bool, true, false, Option, Some, None, IsSome, slice_get, refl, sym, ap, ◌∙◌, arith, subst, get_or-set_other, get_or-set_same}
-use Rattle.std.proofs.{lemmas.List.Elements.All-get_or, Math.Seq.get_or-append_seam}
-use Rattle.std.proofs.lemmas.Bool.{eqb-true, eqb-false, cases_lt}
+use Rattle.std.proofs.{lemmas.List.Elements.All-get_or, Math.Seq.get_or-append_seam, lemmas.Bool.eqb-true, lemmas.Bool.eqb-false, lemmas.Bool.cases_lt}
 use Rattle.std.proofs.lemmas.List.{get_or_default, take_more, length-take-le, get_or-take, get_or_append_left, get_or_past, drop_all, length_push}
 use Rattle.jvm_model.specs.declared.{instr.Instr.Instr, program.Placed.Placed, program.Body.Body, program.MethodRec.MethodRec, program.Program.Program}
 use Rattle.jvm_model.specs.Classes.{layout, method_at, Found, found_in, found_of, form_at, next_place, place_after}

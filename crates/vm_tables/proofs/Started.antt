@@ -1,10 +1,8 @@
 -- Default interfaces, trivial classes, parts and methods' facts of all numbers.
 use Rattle.std.proofs.Common.{◌≡◌, ℕ, ◌+◌, ◌<◌, ◌≤◌, List, [], ◌∷◌, ◌++◌, append_assoc, length, get_or, take, filter, map, Bool, true, false, refl, sym, ◌∙◌, ap, subst, inl, inr, arith}
-use Rattle.std.proofs.lemmas.{Bool.cases_lt, List.get_or_past, List.map-append, List.take_more}
-use Rattle.std.proofs.lemmas.List.Elements.{filter-append}
-use Rattle.jvm_model.specs.declared.program.Program.{Program}
+use Rattle.std.proofs.lemmas.{Bool.cases_lt, List.get_or_past, List.map-append, List.take_more, List.Elements.filter-append}
+use Rattle.jvm_model.specs.{declared.program.Program.Program, Initialise.Part as Before, Initialise.parts_of, Initialise.superclass_part}
 use Rattle.jvm_model.specs.Classes.{class_at, no_class, class_bound, own_interfaces, default_interfaces, is_interface, is_trivial}
-use Rattle.jvm_model.specs.Initialise.{Part as Before, parts_of, superclass_part}
 use Rattle.jvm_model.specs.{Classes.method_at, Classes.no_method, Descriptors.parameters, Descriptors.return_type}
 use Rattle.vm_tables.specs.declared.{methods.MethodFacts.MethodFacts, init_plan.Part.Part}
 use Rattle.vm_tables.specs.{Methods.AreFacts, Methods.facts_of, Methods.no_facts, Interfaces.AreDefaults}

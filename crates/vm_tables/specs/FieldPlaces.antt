@@ -1,7 +1,6 @@
 -- Where a field's cell stands in an object.
 use Rattle.std.specs.Prelude.{◌≡◌, ℕ, suc, ◌<◌, length, List, [], ◌∷◌, get_or, cond, true, nat_eq}
-use Rattle.jvm_model.specs.declared.program.Program.{Program}
-use Rattle.jvm_model.specs.Classes.{layout, member}
+use Rattle.jvm_model.specs.{declared.program.Program.Program, Classes.layout, Classes.member}
 
 -- the place of a number in a list, or the list's length
 abbrev pub place : ℕ → List ℕ → ℕ

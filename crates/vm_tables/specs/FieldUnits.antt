@@ -1,7 +1,6 @@
 -- The types of fields by the first units of their descriptors.
 use Rattle.std.specs.Prelude.{◌≡◌, ℕ, List, get_or}
-use Rattle.jvm_model.specs.declared.program.Program.{Program}
-use Rattle.jvm_model.specs.{Classes.field_at, Linked.first_or}
+use Rattle.jvm_model.specs.{declared.program.Program.Program, Classes.field_at, Linked.first_or}
 
 -- the first unit of a field's descriptor, 0 where the program lacks the field or its descriptor a unit
 abbrev pub field_unit : Program → ℕ → ℕ

@@ -1,7 +1,6 @@
 -- What stands above each class.
 use Rattle.std.specs.Prelude.{◌≡◌, ℕ, List, [], get_or, Bool, false, ◌||◌, nat_eq}
-use Rattle.jvm_model.specs.declared.program.Program.{Program}
-use Rattle.jvm_model.specs.{Classes.own_interfaces, Classes.implements, Classes.is_below, Selection.all_interfaces}
+use Rattle.jvm_model.specs.{declared.program.Program.Program, Classes.own_interfaces, Classes.implements, Classes.is_below, Selection.all_interfaces}
 
 -- the table of the interfaces that each class reaches by its own entries
 abbrev pub AreOwn : Program → List (List ℕ) → Type 0

@@ -1,8 +1,7 @@
 -- Superinterfaces that were noted, and default interfaces.
 use Rattle.std.specs.Prelude.{◌≡◌, ℕ, List, [], get_or, true, nat_eq}
 use Rattle.indexmap.specs.IndexSet.{insert_all}
-use Rattle.jvm_model.specs.declared.program.Program.{Program}
-use Rattle.jvm_model.specs.Classes.{class_bound, member, lineage_in, default_interfaces}
+use Rattle.jvm_model.specs.{declared.program.Program.Program, Classes.class_bound, Classes.member, Classes.lineage_in, Classes.default_interfaces}
 
 -- an interface behind those above it
 abbrev pub lineage : Program → ℕ → List ℕ

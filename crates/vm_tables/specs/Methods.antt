@@ -2,8 +2,7 @@
 use Rattle.std.specs.Prelude.{◌≡◌, ℕ, ◌+◌, List, length, get_or, false, Option, Some, None}
 use Rattle.std.specs.Str.{bytes_eq}
 use Rattle.jvm_model.specs.declared.{library.Native.Native, program.Body.Body, program.MethodRec.MethodRec, program.Program.Program}
-use Rattle.jvm_model.specs.Classes.{init_name, is_trivial, method_at}
-use Rattle.jvm_model.specs.{Descriptors.parameters, Descriptors.return_type, Linked.first_or}
+use Rattle.jvm_model.specs.{Classes.init_name, Classes.is_trivial, Classes.method_at, Descriptors.parameters, Descriptors.return_type, Linked.first_or}
 use Rattle.vm_tables.specs.declared.methods.{CallDescriptor.CallDescriptor, MethodFacts.MethodFacts}
 
 -- what entering a method of this class takes that has this code

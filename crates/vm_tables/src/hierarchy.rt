@@ -4,9 +4,8 @@
 ghost use Rattle.std.specs.Prelude.{◌≡◌, ℕ, ◌<◌, ◌++◌, [], All, IfOk, OnOk, false, flat_map, get_or, length, nat_eq};
 ghost use Rattle.indexmap.specs.IndexSet.{insert_all};
 ghost use Rattle.jvm_model.specs.Classes as classes;
-ghost use Rattle.jvm_model.specs.Classes.{member, upwards_in, upwards};
+ghost use Rattle.jvm_model.specs.{Classes.member, Classes.upwards_in, Classes.upwards, Selection.all_interfaces, Linked.Linked, Linked.IsClass};
 ghost use Rattle.jvm_model.specs.Kinds as kinds;
-ghost use Rattle.jvm_model.specs.{Selection.all_interfaces, Linked.Linked, Linked.IsClass};
 ghost use Rattle.vm_tables.specs.Hierarchy.{AreBelow, AreImplemented, AreInterfaces, AreOwn};
 
 use crate::interfaces::own_interfaces;

@@ -1,17 +1,14 @@
 -- Tests of chains are tests of the program, and what stops a plan.
 use Rattle.std.proofs.Common.{◌≡◌, ℕ, zero, suc, ◌+◌, ◌<◌, ◌≤◌, List, [], ◌∷◌, ◌++◌, length, get_or, reverse, All, Bool, true, false, cond, nat_eq, Option, Some, None, is_some, is_none, refl, sym, ◌∙◌, ap, subst, inl, inr, arith, length-append}
-use Rattle.std.proofs.lemmas.{Bool.eqb-true, List.get_or_read}
-use Rattle.std.proofs.lemmas.List.Sums.{sum_by-cons}
-use Rattle.jvm_model.specs.declared.{program.Program.Program, outcome.Outcome.Outcome}
-use Rattle.jvm_model.specs.{State.test_at, World.World}
+use Rattle.std.proofs.lemmas.{Bool.eqb-true, List.get_or_read, List.Sums.sum_by-cons}
+use Rattle.jvm_model.specs.{declared.program.Program.Program, declared.outcome.Outcome.Outcome, State.test_at, World.World}
 use Rattle.jvm_model.specs.Suite.{Given, opening, world_after, runs, last_in, outcome_in, last_outcome, first_over, first_over_on}
 use Rattle.jvm_model.proofs.FirstOver.{first_over_none}
 use Rattle.order_law.specs.{Conflicts.Member, Histories.IsTestNumber, RecordForm.are_chains, RecordForm.joined}
 use Rattle.order_law.specs.Plan as law
 use Rattle.order_law.proofs.Members.{reversed_member}
 use Rattle.order_law.proofs.Posts.{member_mid, posted_where, reversed, law_of_histories, forms_apart}
-use Rattle.test_run.specs.{Lists.IsListRefused, Running.IsTest, Running.IsRefused, Running.Stands}
-use Rattle.test_run.specs.declared.run_fault.RunFault.{RunFault}
+use Rattle.test_run.specs.{declared.run_fault.RunFault.RunFault, Lists.IsListRefused, Running.IsTest, Running.IsRefused, Running.Stands}
 use Rattle.test_run.specs.declared.run_fault.RunFault.TheVariants as run
 use Rattle.run_core.specs.{Refusal.HasOpen, Run.most_events}
 use Rattle.schedule_plan.proofs.{Formed.joined_where, Formed.distinct_joined, Formed.filled_from, Totals.few, Totals.few_chains}

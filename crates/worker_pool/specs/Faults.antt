@@ -3,9 +3,8 @@ use Rattle.std.specs.Prelude.{ℕ, List}
 use Rattle.jvm_model.specs.declared.program.Program.{Program}
 use Rattle.test_run.specs.declared.run_fault.RunFault.{RunFault}
 use Rattle.test_run.specs.declared.run_fault.RunFault.TheVariants as run
-use Rattle.worker_pool.specs.declared.plan_fault.PlanFault.{PlanFault}
+use Rattle.worker_pool.specs.{declared.plan_fault.PlanFault.PlanFault, Plans.GivesNone, Plans.IsStop}
 use Rattle.worker_pool.specs.declared.plan_fault.PlanFault.TheVariants as fault
-use Rattle.worker_pool.specs.Plans.{GivesNone, IsStop}
 
 abbrev pub IsPlanFault : Program → List (List ℕ) → ℕ → PlanFault → Type 0
 IsPlanFault p C n (fault.OverBudget w t l) = IsStop p C n w t l

@@ -1,11 +1,9 @@
 -- What a plan's run asks of its chains, what it counts, and when a test stops it.
 use Rattle.std.specs.Prelude.{◌≡◌, ℕ, ◌+◌, List, fold, reverse, None}
-use Rattle.jvm_model.specs.declared.program.Program.{Program}
-use Rattle.jvm_model.specs.{State.test_at, Suite.one_test, World.World}
+use Rattle.jvm_model.specs.{declared.program.Program.Program, State.test_at, Suite.one_test, World.World}
 use Rattle.order_law.specs.{Conflicts.Member, Histories.IsTestNumber}
 use Rattle.order_law.specs.Plan as law
-use Rattle.run_core.specs.declared.events.{Event.Event, Event.TheVariants.Claim, Event.TheVariants.Post}
-use Rattle.run_core.specs.Refusal.{HasOpen}
+use Rattle.run_core.specs.{declared.events.Event.Event, declared.events.Event.TheVariants.Claim, declared.events.Event.TheVariants.Post, Refusal.HasOpen}
 use Rattle.test_run.specs.Running.{IsAfter}
 
 -- the tests of a list, and of chains, are tests of the program

@@ -1,8 +1,7 @@
 -- How the caller's run of what is left goes on: each round adds an event.
 use Rattle.std.specs.Prelude.{◌≡◌, ℕ, ◌∷◌, ◌++◌, [], reverse, Bool, true, false}
 use Rattle.order_law.specs.Plan.{posts}
-use Rattle.run_core.specs.declared.events.Event.{Event}
-use Rattle.run_core.specs.{Refusal.HasNone, Run.Run, Run.IsWorker, Run.added, Run.history}
+use Rattle.run_core.specs.{declared.events.Event.Event, Refusal.HasNone, Run.Run, Run.IsWorker, Run.added, Run.history}
 use Rattle.test_run.specs.Running.{Posted}
 
 -- the run with one event more

@@ -7,8 +7,7 @@ use Rattle.jvm_model.specs.declared.values.Location.TheVariants as place
 use Rattle.jvm_model.specs.declared.instr.Instr.TheVariants as form
 use Rattle.jvm_model.specs.declared.instr.Sort.TheVariants as sort
 use Rattle.jvm_model.specs.declared.instr.IfTest.TheVariants as if_test
-use Rattle.jvm_model.specs.declared.program.Program.{Program}
-use Rattle.jvm_model.specs.Suite.{runs, all_tests}
+use Rattle.jvm_model.specs.{declared.program.Program.Program, Suite.runs, Suite.all_tests}
 use Rattle.jvm_model.proofs.OnLiterals.{machine_on_literals}
 use Rattle.jvm_model.proofs.Examples.Parts.{program, class, body, fixed, plain, field, static_int, test, int_const, get_static, put_static, call_static, returns, load_this, dup, print_number, gets, sets, shown, passed, line}
 

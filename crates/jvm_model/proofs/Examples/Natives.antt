@@ -3,15 +3,14 @@
 use Rattle.std.proofs.Common.{◌≡◌, ℕ, ◌+◌, ◌*◌, List, [], ◌∷◌, ◌++◌, Option, Some, None, Bool, drop, map, refl, pos, negsuc}
 use Rattle.std.specs.Prelude.{codes}
 use Rattle.std.specs.List.{range_with_len}
-use Rattle.jvm_model.specs.declared.{values.Value.Value, values.Kind.Kind, values.Location.Location, state.EntryKind.TheVariants.InMethod}
+use Rattle.jvm_model.specs.declared.{values.Value.Value, values.Kind.Kind, values.Location.Location, state.EntryKind.TheVariants.InMethod, outcome.Next.Next}
 use Rattle.jvm_model.specs.declared.values.Value.TheVariants.{Int, Long, Null, Lit, Obj}
 use Rattle.jvm_model.specs.declared.values.Base.TheVariants as base
 use Rattle.jvm_model.specs.declared.values.Kind.TheVariants as kind
 use Rattle.jvm_model.specs.declared.values.Location.TheVariants as place
-use Rattle.jvm_model.specs.declared.{outcome.Next.Next, outcome.Next.TheVariants.Go, outcome.Next.TheVariants.Fault, library.Native.Native}
-use Rattle.jvm_model.specs.declared.program.Program.{Program}
-use Rattle.jvm_model.specs.{World.World, World.Object, Classes.method_at, Working.Working, Natives.row_native}
-use Rattle.jvm_model.specs.{Access.Access, Access.done, Access.run, Rows.Answer, Rows.answer, Rows.stuck_row}
+use Rattle.jvm_model.specs.declared.{outcome.Next.TheVariants.Go, outcome.Next.TheVariants.Fault, library.Native.Native, program.Program.Program}
+use Rattle.jvm_model.specs.{World.World, World.Object, Classes.method_at, Working.Working, Natives.row_native, Access.Access, Access.done, Access.run}
+use Rattle.jvm_model.specs.Rows.{Answer, answer, stuck_row}
 use Rattle.jvm_model.proofs.{OnLiterals.machine_on_literals, Examples.Parts.program, Examples.Parts.gets, Examples.Parts.sets, Examples.Parts.line}
 
 -- the string constants 1 to 5; the last is an e with an acute accent and half of a surrogate pair

@@ -2,13 +2,12 @@
 use Rattle.std.proofs.Common.{ℕ, List, [], ◌∷◌, ◌++◌, ◌+◌, Option, Some, None, pos, Bool, true, false, map}
 use Rattle.std.specs.Prelude.{codes}
 use Rattle.jvm_model.specs.declared.values.{Value.Value, Value.TheVariants.Int, Value.TheVariants.Lit, Location.Location}
-use Rattle.jvm_model.specs.declared.instr.Instr.{Instr}
+use Rattle.jvm_model.specs.declared.{instr.Instr.Instr, outcome.Outcome.Outcome}
 use Rattle.jvm_model.specs.declared.instr.Instr.TheVariants as form
 use Rattle.jvm_model.specs.declared.instr.Sort.TheVariants as sort
-use Rattle.jvm_model.specs.declared.outcome.{Outcome.Outcome, Verdict.TheVariants.Passed, Verdict.TheVariants.Failed, Verdict.TheVariants.Error}
+use Rattle.jvm_model.specs.declared.outcome.Verdict.TheVariants.{Passed, Failed, Error}
 use Rattle.jvm_model.specs.declared.program.{Program.Program, ClassRec.ClassRec, FieldRec.FieldRec, MethodRec.MethodRec, Body.Body, Placed.Placed}
-use Rattle.jvm_model.specs.declared.program.TestEntry.{TestEntry}
-use Rattle.jvm_model.specs.{Library.builtin_classes, Library.builtin_fields, Library.builtin_methods, Suite.Given}
+use Rattle.jvm_model.specs.{declared.program.TestEntry.TestEntry, Library.builtin_classes, Library.builtin_fields, Library.builtin_methods, Suite.Given}
 
 -- A program of these classes, fields, methods, string constants and tests after the built-in ones: the first class has
 -- the number 32, the first field 2 and the first method 102.

@@ -2,10 +2,8 @@
 use Rattle.std.proofs.Common.{◌≡◌, ◌↔◌, ℕ, zero, suc, ◌<◌, List, [], ◌∷◌, ◌++◌, map, replicate, Bool, true, false, refl, sym, subst, inl, inr, arith, Some, None, nat_eq, cond}
 use Rattle.std.specs.Prelude.{codes}
 use Rattle.std.proofs.lemmas.Bool.{true≢false}
-use Rattle.jvm_model.specs.declared.{outcome.Outcome.Outcome, program.Program.Program}
-use Rattle.jvm_model.specs.{Suite.is_detected, Suite.all_tests, Linked.Linked}
-use Rattle.jvm_model.proofs.{Examples.Parts.passed, Examples.Parts.line, Examples.Suites.counter_suite, Examples.Suites.return_suite}
-use Rattle.jvm_model.proofs.Examples.Linked.{return_linked}
+use Rattle.jvm_model.specs.{declared.outcome.Outcome.Outcome, declared.program.Program.Program, Suite.is_detected, Suite.all_tests, Linked.Linked}
+use Rattle.jvm_model.proofs.Examples.{Parts.passed, Parts.line, Suites.counter_suite, Suites.return_suite, Linked.return_linked}
 use Rattle.order_law.specs.declared.edges.{Edge.Edge, EdgeKind.EdgeKind, EdgeKind.TheVariants.Raw, EdgeKind.TheVariants.Waw, EdgeKind.TheVariants.War}
 use Rattle.order_law.specs.Conflicts.{Member, HasEdge, Before, Lawful, Closure, selected, source, Joined, itself, forth, back}
 use Rattle.order_law.specs.{OrderFault.twice, OrderFault.missing_writer, OrderFault.inverted, OwnRecord.edges_of}

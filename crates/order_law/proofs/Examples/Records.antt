@@ -6,13 +6,11 @@ use Rattle.jvm_model.specs.declared.values.{Touch.Touch, Value.TheVariants.Int, 
 use Rattle.jvm_model.specs.declared.values.Kind.TheVariants as kind
 use Rattle.jvm_model.specs.declared.values.Location.TheVariants as place
 use Rattle.jvm_model.specs.declared.instr.Instr.TheVariants as form
-use Rattle.jvm_model.specs.declared.program.Program.{Program}
-use Rattle.jvm_model.specs.{Classes.class_at, Linked.IsGiven}
+use Rattle.jvm_model.specs.{declared.program.Program.Program, Classes.class_at, Linked.IsGiven}
 use Rattle.jvm_model.proofs.Examples.Parts.{program, class, body, fixed, plain, static, field, static_int, test, int_const, literal, get_static, put_static, print_number, returns, load_this}
 use Rattle.jvm_model.proofs.Examples.Suites.{counter_suite, again_suite, read_write_suite, node_suite, bad_init_suite, kept_error_suite, files_suite}
 use Rattle.order_law.specs.declared.edges.{Edge.Edge, EdgeKind.EdgeKind, EdgeKind.TheVariants.Raw, EdgeKind.TheVariants.Waw, EdgeKind.TheVariants.War}
-use Rattle.order_law.specs.declared.records.{Place.Place, Shown.Shown}
-use Rattle.order_law.specs.{Conflicts.Member, Conflicts.down, Pairing.PairedList, Pairing.one_more}
+use Rattle.order_law.specs.{declared.records.Place.Place, declared.records.Shown.Shown, Conflicts.Member, Conflicts.down, Pairing.PairedList, Pairing.one_more}
 use Rattle.order_law.specs.Histories.{Touches, ran_after, touches_of}
 use Rattle.order_law.specs.Reach.{inner_class, is_settled, Reaches, own, touched, mentioned, IsReachOf, kinds_of}
 use Rattle.order_law.specs.Walk.{Walk, from_static, through, read_text, IsPlaceIn, IsShownIn}

@@ -1,7 +1,6 @@
 use Rattle.std.proofs.Common.{◌≡◌, ◌∙◌, ◌++◌, refl}
 use Rattle.jvm_model.specs.Library.{builtin_classes, builtin_fields, builtin_methods}
-use Rattle.class_link.specs.{ClassNames.all_names, Literals.literals}
-use Rattle.class_link.specs.Assembly.{class_recs, field_recs, method_recs, bare_body}
+use Rattle.class_link.specs.{ClassNames.all_names, Literals.literals, Assembly.class_recs, Assembly.field_recs, Assembly.method_recs, Assembly.bare_body}
 use Rattle.class_link.proofs.AssemblyLaws.{skeleton_is}
 use Rattle.class_link.proofs.assembly.skeleton.Goals as goal
 

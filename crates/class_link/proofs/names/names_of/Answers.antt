@@ -1,7 +1,6 @@
 use Rattle.std.proofs.Common.{◌≡◌, ◌∙◌, ap, length, map, arith}
 use Rattle.std.proofs.lemmas.List.{length-map}
-use Rattle.jvm_model.specs.declared.program.ClassRec.{ClassRec}
-use Rattle.jvm_model.specs.Library.{builtin_classes}
+use Rattle.jvm_model.specs.{declared.program.ClassRec.ClassRec, Library.builtin_classes}
 use Rattle.jvm_model.proofs.BuiltinRules.{lengths}
 use Rattle.class_link.proofs.Tables.{builtins_differ}
 use Rattle.class_link.proofs.names.names_of.Goals as goal

@@ -1,6 +1,5 @@
 use Rattle.std.proofs.Common.{◌∙◌, sym, subst, Option}
-use Rattle.class_link.specs.declared.fault.LinkFault.{LinkFault}
-use Rattle.class_link.specs.{Answers.Fails, Link.unless}
+use Rattle.class_link.specs.{declared.fault.LinkFault.LinkFault, Answers.Fails, Link.unless}
 use Rattle.class_link.proofs.{FaultLaws.fails_on, MarkLaws.marked_next, MarkLaws.marked_fails}
 use Rattle.class_link.proofs.reference_faults.check_entries.Goals as goal
 

@@ -1,6 +1,5 @@
 use Rattle.std.proofs.Common.{◌∙◌, sym, ap, subst, Option}
-use Rattle.class_link.specs.declared.fault.LinkFault.{LinkFault}
-use Rattle.class_link.specs.{Answers.Fails, Link.unless}
+use Rattle.class_link.specs.{declared.fault.LinkFault.LinkFault, Answers.Fails, Link.unless}
 use Rattle.class_link.proofs.{FaultLaws.fails_on, MarkLaws.fault_all}
 use Rattle.class_link.proofs.reference_faults.check_references.Goals as goal
 

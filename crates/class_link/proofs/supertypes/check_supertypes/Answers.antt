@@ -1,6 +1,5 @@
 use Rattle.std.proofs.Common.{◌∙◌, sym, subst, Option}
-use Rattle.class_link.specs.declared.fault.LinkFault.{LinkFault}
-use Rattle.class_link.specs.{Answers.Fails, Faults.supertype_fault, Link.unless}
+use Rattle.class_link.specs.{declared.fault.LinkFault.LinkFault, Answers.Fails, Faults.supertype_fault, Link.unless}
 use Rattle.class_link.proofs.FaultLaws.{next_first, fails_first, fails_on}
 use Rattle.class_link.proofs.supertypes.check_supertypes.Goals as goal
 

@@ -2,8 +2,7 @@ use Rattle.std.proofs.Common.{◌≡◌, ℕ, ◌<◌, map, get_or, refl, ap, �
 use Rattle.std.specs.Prelude.{None}
 use Rattle.std.specs.List.{range_with_len}
 use Rattle.std.proofs.lemmas.List.FromFn.{get_or-map-range_with_len}
-use Rattle.code_decode.specs.Opcodes.{shape_of}
-use Rattle.code_decode.specs.declared.opcodes.TheConstants.{SHAPES}
+use Rattle.code_decode.specs.{declared.opcodes.TheConstants.SHAPES, Opcodes.shape_of}
 use Rattle.code_decode.proofs.opcodes.shape_of.Goals as goal
 
 -- the table has the form of each opcode

@@ -1,7 +1,6 @@
 use Rattle.std.proofs.Common.{◌≡◌, ℕ, ◌+◌, ◌<◌, ◌≤◌, List, All, length, get_or, take, sum_by, sym, ◌∙◌, ap, refl, subst, arith}
 use Rattle.std.proofs.lemmas.List.Sums.{sum_by_more}
-use Rattle.jvm_model.specs.declared.program.Program.{Program}
-use Rattle.jvm_model.specs.Suite.{last_outcome}
+use Rattle.jvm_model.specs.{declared.program.Program.Program, Suite.last_outcome}
 use Rattle.test_run.specs.Running.{IsTest}
 use Rattle.cone_run.specs.{Cones.cone_units, Marks.IsEffect, Marks.without}
 use Rattle.cone_run.proofs.{ConeLists.filled, ConeLists.member_at, ConeLists.without_has, Pairs.paired_next, Pairs.paired_none}

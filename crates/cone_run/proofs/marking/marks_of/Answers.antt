@@ -1,7 +1,6 @@
 use Rattle.std.proofs.Common.{◌≡◌, ℕ, ◌+◌, ◌<◌, ◌≤◌, List, All, length, sum_by, Some, sym, ◌∙◌, ap, subst}
 use Rattle.std.proofs.lemmas.Result.{err_from_is_err_and}
-use Rattle.jvm_model.specs.declared.{outcome.Outcome.Outcome, program.Program.Program}
-use Rattle.jvm_model.specs.Suite.{last_outcome}
+use Rattle.jvm_model.specs.{declared.outcome.Outcome.Outcome, declared.program.Program.Program, Suite.last_outcome}
 use Rattle.test_run.specs.Running.{IsTest}
 use Rattle.cone_run.specs.{Cones.IsCone, Cones.cone_units, Marking.AreMarksIn, Marks.without, Runs.HasTest}
 use Rattle.cone_run.proofs.ConeLists.{filled, has_test}

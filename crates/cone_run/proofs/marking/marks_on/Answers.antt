@@ -4,8 +4,7 @@ use Rattle.jvm_model.specs.declared.program.Program.{Program}
 use Rattle.type_frames.specs.Typing.{IsTyped}
 use Rattle.dep_graph.specs.Graphs.{GoUp}
 use Rattle.test_run.specs.Running.{IsTest}
-use Rattle.cone_run.specs.declared.marks.Mark.{Mark}
-use Rattle.cone_run.specs.{Marking.AreMarksTo, Marking.HasMarks, Marking.IsTestFault, Marks.AreUnits}
+use Rattle.cone_run.specs.{declared.marks.Mark.Mark, Marking.AreMarksTo, Marking.HasMarks, Marking.IsTestFault, Marks.AreUnits}
 use Rattle.cone_run.proofs.MarkLaws.{marks_all, marks_begun, marks_fault, marks_more, units_more}
 use Rattle.cone_run.proofs.marking.marks_on.Goals as goal
 

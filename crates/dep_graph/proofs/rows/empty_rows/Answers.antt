@@ -1,7 +1,6 @@
 -- Each row that is added has no test in it.
 use Rattle.std.proofs.Common.{rules, List, ap, ◌∙◌}
-use Rattle.dep_graph.specs.declared.sets.TestSet.{TestSet}
-use Rattle.dep_graph.specs.Graphs.{has_row}
+use Rattle.dep_graph.specs.{declared.sets.TestSet.TestSet, Graphs.has_row}
 use Rattle.dep_graph.proofs.RowLaws.{no_rows, rows_still_empty}
 use Rattle.dep_graph.proofs.rows.empty_rows.Goals as goal
 

@@ -1,10 +1,9 @@
 use Rattle.std.proofs.Common.{ℕ, refl}
 use Rattle.std.proofs.lemmas.Result.{IfOk-weaker, IfErr-weaker}
 use Rattle.order_law.specs.Conflicts.{Member}
-use Rattle.electrictest.specs.declared.{reports.Report.Report, status.Status.Status}
+use Rattle.electrictest.specs.{declared.reports.Report.Report, declared.status.Status.Status, Causes.MayReport, Records.beginning, Selections.selected}
 use Rattle.electrictest.specs.declared.words.Command.TheVariants as command
-use Rattle.electrictest.specs.{Causes.MayReport, Records.beginning, Selections.selected, Words.word_at}
-use Rattle.electrictest.specs.Commands.{ReportEnds, ReportsOver, RefusedOver}
+use Rattle.electrictest.specs.{Words.word_at, Commands.ReportEnds, Commands.ReportsOver, Commands.RefusedOver}
 use Rattle.electrictest.specs.ConeRuns.{AreCounted, ConesRefused, IsConeReport}
 use Rattle.electrictest.proofs.{AskedFor.may_report, AskedFor.named_as, ConeReplies.counted_reports, ConeReplies.cones_refused, ConeReplies.cones_ends}
 use Rattle.electrictest.proofs.cone_runs.cones_for.Goals as goal

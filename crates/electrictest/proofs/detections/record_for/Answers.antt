@@ -1,9 +1,8 @@
 use Rattle.std.proofs.Common.{Ok, refl}
 use Rattle.std.proofs.lemmas.Result.{IfOk-weaker, IfErr-weaker}
-use Rattle.electrictest.specs.declared.{reports.Report.Report, status.Status.Status}
+use Rattle.electrictest.specs.{declared.reports.Report.Report, declared.status.Status.Status, Causes.MayReport, Detections.Finds, Detections.recorded}
 use Rattle.electrictest.specs.declared.words.Command.TheVariants as command
-use Rattle.electrictest.specs.{Causes.MayReport, Detections.Finds, Detections.recorded, Running.RunRefused}
-use Rattle.electrictest.specs.Commands.{ReportEnds, ReportsOver, RefusedOver}
+use Rattle.electrictest.specs.{Running.RunRefused, Commands.ReportEnds, Commands.ReportsOver, Commands.RefusedOver}
 use Rattle.electrictest.proofs.AskedFor.{formed_as, may_pass, reports_as, overs_as}
 use Rattle.electrictest.proofs.Founds.{reports_found, refused_found, ends_found}
 use Rattle.electrictest.proofs.detections.record_for.Goals as goal

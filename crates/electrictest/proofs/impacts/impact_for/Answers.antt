@@ -2,8 +2,7 @@ use Rattle.std.proofs.Common.{[], Ok, ap, refl}
 use Rattle.std.proofs.lemmas.Result.{err_from_is_err_and}
 use Rattle.electrictest.specs.declared.words.Command.TheVariants as command
 use Rattle.electrictest.specs.{Loads.fits_for, Loads.named_by, Records.nameless}
-use Rattle.electrictest.proofs.{AskedFor.formed_as, ImpactLaws.impact_reports, PlanLaws.unplanned}
-use Rattle.electrictest.proofs.Request.{not_begun, not_begun_ends, begins}
+use Rattle.electrictest.proofs.{AskedFor.formed_as, ImpactLaws.impact_reports, PlanLaws.unplanned, Request.not_begun, Request.not_begun_ends, Request.begins}
 use Rattle.electrictest.proofs.impacts.impact_for.Goals as goal
 
 pub returns-in_err-record-clause-refused : goal.returns-in_err-record-clause-refused

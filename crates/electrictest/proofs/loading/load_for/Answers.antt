@@ -1,7 +1,6 @@
 use Rattle.std.proofs.Common.{◌≡◌, sym, ap, subst, ◌∙◌, rules, Ok, Some}
 use Rattle.outside.specs.Depot.{OfHeld}
-use Rattle.electrictest.specs.declared.status.Status.{Status}
-use Rattle.electrictest.specs.{Commands.ReportEnds, Loads.prepared, Replies.Unreported}
+use Rattle.electrictest.specs.{declared.status.Status.Status, Commands.ReportEnds, Loads.prepared, Replies.Unreported}
 use Rattle.electrictest.proofs.LoadLaws.{loads_all, unasked_ends, unloaded_ends, unloaded_for}
 use Rattle.electrictest.proofs.loading.load_for.Goals as goal
 

@@ -1,8 +1,7 @@
 use Rattle.std.proofs.Common.{◌≡◌, List, ℕ, ◌++◌, ◌∷◌, [], codes, take, reverse, sym, ap, ◌∙◌, refl, arith}
 use Rattle.std.proofs.lemmas.{List.take_all, Result.on_ok_weaker}
 use Rattle.std.specs.List.{flat_map}
-use Rattle.run_core.specs.declared.events.Event.{Event}
-use Rattle.run_core.specs.Run.{told, history_of}
+use Rattle.run_core.specs.{declared.events.Event.Event, Run.told, Run.history_of}
 use Rattle.test_run.proofs.Joins.{join3}
 use Rattle.electrictest.specs.Logs.{event_line, log_text}
 use Rattle.electrictest.proofs.LogLaws.{lines_in_order}

@@ -1,10 +1,9 @@
 use Rattle.std.proofs.Common.{[], Ok, refl}
 use Rattle.std.proofs.lemmas.Result.{IfOk-weaker, IfErr-weaker}
 use Rattle.cone_run.specs.Marks.{HasWriter}
-use Rattle.electrictest.specs.declared.{reports.Report.Report, status.Status.Status}
+use Rattle.electrictest.specs.{declared.reports.Report.Report, declared.status.Status.Status, Causes.MayReport, ConeRuns.AreCounted, ConeRuns.ConesRefused}
 use Rattle.electrictest.specs.declared.words.Command.TheVariants as command
-use Rattle.electrictest.specs.{Causes.MayReport, ConeRuns.AreCounted, ConeRuns.ConesRefused, Manifests.IsManifest, Records.beginning}
-use Rattle.electrictest.specs.Commands.{ReportEnds, ReportsOver, RefusedOver}
+use Rattle.electrictest.specs.{Manifests.IsManifest, Records.beginning, Commands.ReportEnds, Commands.ReportsOver, Commands.RefusedOver}
 use Rattle.electrictest.proofs.AskedFor.{formed_as, may_pass, named_as}
 use Rattle.electrictest.proofs.ConeReplies.{counted_reports, cones_refused, cones_ends}
 use Rattle.electrictest.proofs.manifests.manifest_for.Goals as goal

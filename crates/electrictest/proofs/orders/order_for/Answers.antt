@@ -1,9 +1,8 @@
 use Rattle.std.proofs.Common.{refl}
 use Rattle.std.proofs.lemmas.Result.{IfOk-weaker, IfErr-weaker}
-use Rattle.electrictest.specs.declared.{reports.Report.Report, status.Status.Status}
+use Rattle.electrictest.specs.{declared.reports.Report.Report, declared.status.Status.Status, Causes.MayReport, Orders.Reports, Records.beginning}
 use Rattle.electrictest.specs.declared.words.Command.TheVariants as command
-use Rattle.electrictest.specs.{Causes.MayReport, Orders.Reports, Records.beginning, Running.OrderRefused, Selections.ordered, Words.word_at}
-use Rattle.electrictest.specs.Commands.{ReportEnds, ReportsOver, RefusedOver}
+use Rattle.electrictest.specs.{Running.OrderRefused, Selections.ordered, Words.word_at, Commands.ReportEnds, Commands.ReportsOver, Commands.RefusedOver}
 use Rattle.electrictest.proofs.{AskedFor.may_report, AskedFor.named_as, OrderLaws.order_reports, OrderLaws.order_refused, OrderLaws.order_ends}
 use Rattle.electrictest.proofs.orders.order_for.Goals as goal
 

@@ -1,6 +1,5 @@
 use Rattle.std.proofs.Common.{◌-◌, ◌∙◌, ap, List, ℕ, arith}
-use Rattle.std.proofs.lemmas.List.{take_all}
-use Rattle.std.proofs.lemmas.List.Sums.{sum_by_more}
+use Rattle.std.proofs.lemmas.List.{take_all, Sums.sum_by_more}
 use Rattle.schedule_plan.specs.{Grouping.at, Plans.units_of}
 use Rattle.schedule_plan.proofs.{Places.member_get, Totals.units_more}
 use Rattle.electrictest.proofs.plan_texts.chain_units.Goals as goal

@@ -1,9 +1,8 @@
 use Rattle.std.proofs.Common.{refl}
 use Rattle.std.proofs.lemmas.Result.{IfOk-weaker, IfErr-weaker}
-use Rattle.electrictest.specs.declared.{reports.Report.Report, status.Status.Status}
+use Rattle.electrictest.specs.{declared.reports.Report.Report, declared.status.Status.Status, Causes.MayReport, PoolRuns.PoolReports, PoolRuns.PoolRefused}
 use Rattle.electrictest.specs.declared.words.Command.TheVariants as command
-use Rattle.electrictest.specs.{Causes.MayReport, PoolRuns.PoolReports, PoolRuns.PoolRefused, Records.beginning, Selections.selected, Words.word_at}
-use Rattle.electrictest.specs.Commands.{ReportEnds, ReportsOver, RefusedOver}
+use Rattle.electrictest.specs.{Records.beginning, Selections.selected, Words.word_at, Commands.ReportEnds, Commands.ReportsOver, Commands.RefusedOver}
 use Rattle.electrictest.proofs.{AskedFor.may_report, AskedFor.named_as, PoolReplies.pool_reports, PoolReplies.pool_refused, PoolReplies.pool_ends}
 use Rattle.electrictest.proofs.pool_runs.run_for.Goals as goal
 

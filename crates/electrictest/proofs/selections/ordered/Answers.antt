@@ -1,7 +1,6 @@
 use Rattle.std.proofs.Common.{◌==◌, ◌++◌, ◌∷◌, [], length, sym, subst, arith, rules, tests}
-use Rattle.std.proofs.{lemmas.Iterator.Consumers.YieldsList-turn, lemmas.Iterator.Consumers.YieldsList-end, lemmas.Iterator.Splits.YieldsList-from_slice_split}
-use Rattle.std.proofs.lemmas.{List.length_push, Result.err_from_is_err_and}
-use Rattle.std.proofs.lemmas.List.Elements.{All-push}
+use Rattle.std.proofs.lemmas.Iterator.{Consumers.YieldsList-turn, Consumers.YieldsList-end, Splits.YieldsList-from_slice_split}
+use Rattle.std.proofs.lemmas.{List.length_push, Result.err_from_is_err_and, List.Elements.All-push}
 use Rattle.electrictest.specs.Selections.{ordered, pieces_of, IsTestOf}
 use Rattle.electrictest.proofs.SelectionLaws.{AreSoFar, so_far_more, so_far_fails, so_far_all}
 use Rattle.electrictest.proofs.selections.ordered.Goals as goal

@@ -1,8 +1,7 @@
 use Rattle.std.proofs.Common.{Ok, refl}
 use Rattle.std.proofs.lemmas.Result.{IfOk-weaker, IfErr-weaker}
-use Rattle.electrictest.specs.declared.{reports.Report.Report, status.Status.Status}
+use Rattle.electrictest.specs.{declared.reports.Report.Report, declared.status.Status.Status, Causes.MayReport, Running.RunRefused, Running.WholeReports}
 use Rattle.electrictest.specs.declared.words.Command.TheVariants as command
-use Rattle.electrictest.specs.{Causes.MayReport, Running.RunRefused, Running.WholeReports}
 use Rattle.electrictest.specs.Commands.{ReportEnds, ReportsOver, RefusedOver}
 use Rattle.electrictest.proofs.{AskedFor.may_report, AskedFor.overs_as, Founds.refused_found, Founds.ends_found, WholeLaws.whole_reports}
 use Rattle.electrictest.proofs.wholes.whole_for.Goals as goal

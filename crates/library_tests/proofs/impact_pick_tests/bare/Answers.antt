@@ -1,7 +1,6 @@
 use Rattle.std.proofs.Common.{◌≤◌, List, length, ap, arith}
 use Rattle.std.specs.List.{list_all}
-use Rattle.class_link.specs.declared.lines.TestLine.{TestLine}
-use Rattle.class_link.specs.Link.{is_test_name}
+use Rattle.class_link.specs.{declared.lines.TestLine.TestLine, Link.is_test_name}
 use Rattle.jvm_model.specs.Suite.{suite_limit}
 use Rattle.library_tests.proofs.impact_pick_tests.bare.Goals as goal
 

@@ -1,6 +1,5 @@
 use Rattle.std.proofs.Common.{◌≡◌, sym, subst, ◌∙◌, arith}
-use Rattle.jvm_model.specs.declared.program.Program.{Program}
-use Rattle.jvm_model.specs.{World.World, State.State}
+use Rattle.jvm_model.specs.{declared.program.Program.Program, World.World, State.State}
 use Rattle.type_frames.specs.{Typing.IsTyped, TypedState.TypedState, TypedState.TypedWorld}
 use Rattle.check_sound.specs.ReachLaw.{HasStackLimits}
 use Rattle.vm_interp.specs.Abs.{abs}

@@ -1,6 +1,5 @@
 use Rattle.std.proofs.Common.{get_or}
-use Rattle.jvm_model.specs.declared.{program.FieldRec.FieldRec, values.Value.TheVariants.Null}
-use Rattle.jvm_model.specs.Classes.{no_field}
+use Rattle.jvm_model.specs.{declared.program.FieldRec.FieldRec, declared.values.Value.TheVariants.Null, Classes.no_field}
 use Rattle.quiet_init.proofs.Lists.{AreSet}
 use Rattle.quiet_init.proofs.program.with_openings.Given as goal
 

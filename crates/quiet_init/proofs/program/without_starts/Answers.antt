@@ -1,6 +1,5 @@
 use Rattle.std.proofs.Common.{◌≤◌, ◌∙◌, ap, List, get_or, length, cond, false, None, arith}
-use Rattle.jvm_model.specs.declared.program.ClassRec.{ClassRec}
-use Rattle.jvm_model.specs.Classes.{no_class}
+use Rattle.jvm_model.specs.{declared.program.ClassRec.ClassRec, Classes.no_class}
 use Rattle.quiet_init.proofs.Lists.{all_set}
 use Rattle.quiet_init.proofs.program.without_starts.Goals as goal
 

@@ -1,6 +1,5 @@
 use Rattle.std.proofs.Common.{get_or, cond, false, None}
-use Rattle.jvm_model.specs.declared.program.ClassRec.{ClassRec}
-use Rattle.jvm_model.specs.Classes.{no_class}
+use Rattle.jvm_model.specs.{declared.program.ClassRec.ClassRec, Classes.no_class}
 use Rattle.quiet_init.proofs.Lists.{AreSet}
 use Rattle.quiet_init.proofs.program.without_starts.Given as goal
 

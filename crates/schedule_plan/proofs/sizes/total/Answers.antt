@@ -1,7 +1,6 @@
 -- Different tests have no more units than there are.
 use Rattle.std.proofs.Common.{◌-◌, ◌∙◌, ap, List, ℕ, arith}
-use Rattle.std.proofs.lemmas.List.{take_all}
-use Rattle.std.proofs.lemmas.List.Sums.{sum_by_more}
+use Rattle.std.proofs.lemmas.List.{take_all, Sums.sum_by_more}
 use Rattle.selection_close.proofs.Lists.{member_less}
 use Rattle.schedule_plan.specs.{Grouping.at, Plans.units_of}
 use Rattle.schedule_plan.proofs.{Places.member_get, Totals.units_more}

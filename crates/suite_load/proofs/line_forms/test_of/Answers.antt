@@ -1,7 +1,6 @@
 use Rattle.std.proofs.Common.{ℕ, List, sym, ap, ◌∙◌}
 use Rattle.std.specs.{List.list_any, Str.bytes_eq}
-use Rattle.suite_load.specs.declared.suite_text.TestLine.{TestLine}
-use Rattle.suite_load.specs.SuiteForm.{test_from, test_names}
+use Rattle.suite_load.specs.{declared.suite_text.TestLine.TestLine, SuiteForm.test_from, SuiteForm.test_names}
 use Rattle.suite_load.proofs.line_forms.test_of.Goals as goal
 
 pub returns-clause-new : goal.returns-clause-new

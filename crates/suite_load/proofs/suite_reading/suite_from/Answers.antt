@@ -1,7 +1,6 @@
 use Rattle.std.proofs.Common.{◌≡◌, ◌∷◌, [], List, length, fold, refl, sym, ap, ◌∙◌, arith}
 use Rattle.std.specs.Vec.Iter.{into_iter_items}
-use Rattle.suite_load.specs.declared.suite_text.SuiteText.{SuiteText}
-use Rattle.suite_load.specs.SuiteForm.{added, suite_from}
+use Rattle.suite_load.specs.{declared.suite_text.SuiteText.SuiteText, SuiteForm.added, SuiteForm.suite_from}
 use Rattle.suite_load.proofs.suite_reading.suite_from.Goals as goal
 
 nothing_left : {X : Type 0} (l : List X) → length l ≡ 0 → l ≡ []

@@ -1,6 +1,5 @@
 use Rattle.std.proofs.Common.{◌≡◌, ℕ, ◌-◌, sym, subst, ap, ◌∙◌}
-use Rattle.jvm_model.specs.declared.program.Program.{Program}
-use Rattle.jvm_model.specs.{State.State, State.started, World.World}
+use Rattle.jvm_model.specs.{declared.program.Program.Program, State.State, State.started, World.World}
 use Rattle.type_frames.specs.TypedState.{TypedWorld}
 use Rattle.test_run.specs.Running.{IsTest}
 use Rattle.test_run.proofs.OneTest.{gives_same, left_same, outcome_with, started_same, tells_same}

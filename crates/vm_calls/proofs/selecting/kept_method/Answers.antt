@@ -1,7 +1,6 @@
 use Rattle.std.proofs.Common.{◌≡◌, ◌∙◌, ap, subst, [], filter, flat_map, nat_eq}
 use Rattle.indexmap.specs.IndexSet.{insert_all}
-use Rattle.jvm_model.specs.declared.program.Program.{Program}
-use Rattle.jvm_model.specs.{Classes.class_at, Selection.is_open_like, Selection.one_with_code}
+use Rattle.jvm_model.specs.{declared.program.Program.Program, Classes.class_at, Selection.is_open_like, Selection.one_with_code}
 use Rattle.member_lookup.specs.Walks.{is_kept}
 use Rattle.vm_calls.specs.Choices.{above_of}
 use Rattle.vm_calls.proofs.Choosing.{kept_is}

@@ -1,6 +1,5 @@
 use Rattle.std.proofs.Common.{◌<◌, ◌∷◌, [], length, arith}
-use Rattle.jvm_model.specs.declared.values.{Value.TheVariants.Null, Location.TheVariants.Elem}
-use Rattle.jvm_model.specs.Access.{write_of}
+use Rattle.jvm_model.specs.{declared.values.Value.TheVariants.Null, declared.values.Location.TheVariants.Elem, Access.write_of}
 use Rattle.vm_mem.specs.Noting.{noted_by}
 use Rattle.vm_mem.proofs.Parts.{rest_more, elems_made_rest}
 use Rattle.vm_mem.proofs.trace.note_elems.Goals as goal

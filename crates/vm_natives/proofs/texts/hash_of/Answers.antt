@@ -1,6 +1,5 @@
 use Rattle.std.proofs.Common.{rules, ◌≡◌, ◌+◌, ◌*◌, ◌%◌, ◌^◌, ℕ, List, get_or, drop, to_z, of_z, w32, ap, subst, sym, ◌∙◌, arith}
-use Rattle.std.proofs.Math.ListN.{drop_of_length-le}
-use Rattle.std.proofs.lemmas.List.{at_drop_more}
+use Rattle.std.proofs.{Math.ListN.drop_of_length-le, lemmas.List.at_drop_more}
 use Rattle.jvm_model.specs.NativesString.{hash_sum}
 use Rattle.vm_natives.proofs.Hashes.{wrapped_step, hashed}
 use Rattle.vm_natives.proofs.texts.hash_of.Goals as goal

@@ -1,7 +1,6 @@
 use Rattle.std.proofs.Common.{◌≡◌, ℕ, ◌-◌, ◌+◌, ◌*◌, List, length}
-use Rattle.jvm_model.specs.declared.values.Touch.{Touch}
+use Rattle.jvm_model.specs.{declared.values.Touch.Touch, View.IsSafe, View.Any, View.counted, View.touched}
 use Rattle.jvm_model.specs.RowsCreate as create
-use Rattle.jvm_model.specs.View.{IsSafe, Any, counted, touched}
 use Rattle.vm_mem.specs.Trace.{Trace}
 use Rattle.vm_objects.proofs.nesting.+nest.Given as goal
 

@@ -1,7 +1,6 @@
 use Rattle.std.proofs.Common.{◌≡◌, ◌∙◌, subst}
 use Rattle.std.proofs.lemmas.List.{get_or_default}
-use Rattle.jvm_model.specs.declared.program.MethodRec.{MethodRec}
-use Rattle.jvm_model.specs.Classes.{method_at, no_method}
+use Rattle.jvm_model.specs.{declared.program.MethodRec.MethodRec, Classes.method_at, Classes.no_method}
 use Rattle.vm_tables.specs.Numbers.{ArePlaces, AreNexts}
 use Rattle.vm_tables.proofs.Places.{length_more, tables_more}
 use Rattle.vm_tables.proofs.tables.all_places.Goals as goal

@@ -1,8 +1,7 @@
 use Rattle.std.proofs.Common.{◌≡◌, ◌∙◌, ℕ, List, [], ◌∷◌, ◌++◌, None, ap, sym, subst}
 use Rattle.std.specs.Result.{IfErr}
 use Rattle.std.proofs.lemmas.Result.{IfOk-weaker}
-use Rattle.jvm_model.specs.declared.program.Program.{Program}
-use Rattle.jvm_model.specs.Suite.{first_over}
+use Rattle.jvm_model.specs.{declared.program.Program.Program, Suite.first_over}
 use Rattle.worker_pool.specs.{Faults.IsRunFault, Plans.AreTests}
 use Rattle.worker_pool.proofs.finish.run_again.Goals as goal
 

@@ -1,7 +1,6 @@
 use denote.Param.Send.{sendable}
 use Rattle.std.proofs.Common.{◌∙◌, ◌<◌, ◌^◌, ℕ, List, All, ap, length, sym, subst, arith}
-use Rattle.std.proofs.lemmas.List.{length-map}
-use Rattle.std.proofs.lemmas.List.Elements.{All-map}
+use Rattle.std.proofs.lemmas.List.{length-map, Elements.All-map}
 use Rattle.std.proofs.Crossing as plain
 use Rattle.schedule_plan.specs.declared.shares.Share.{Share}
 use Rattle.worker_pool.proofs.pool.run_workers.Goals as goal

@@ -3,8 +3,7 @@ use Rattle.jvm_model.specs.declared.program.Program.{Program}
 use Rattle.type_frames.specs.Typing.{IsTyped}
 use Rattle.test_run.specs.Running.{IsTest}
 use Rattle.cone_run.specs.{Cones.cone_units, Runs.IsPieceOf}
-use Rattle.cone_run.proofs.{Books.posted_of, Pairs.paired_length}
-use Rattle.cone_run.proofs.ConeLists.{cone_at, filled, tests_at}
+use Rattle.cone_run.proofs.{Books.posted_of, Pairs.paired_length, ConeLists.cone_at, ConeLists.filled, ConeLists.tests_at}
 use Rattle.cone_run.proofs.jobs.ConeJobsJobs.take.Goals as goal
 
 pub claim-requires : goal.claim-requires

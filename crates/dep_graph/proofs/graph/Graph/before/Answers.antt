@@ -1,8 +1,7 @@
 -- Past the rows nothing is before.
 use Rattle.std.proofs.Common.{List, length, sym, subst, arith, ◌≤◌, ◌+◌}
 use Rattle.std.proofs.lemmas.Bool.{false≢true, ltb-false}
-use Rattle.order_law.specs.declared.edges.Edge.{Edge}
-use Rattle.order_law.specs.Conflicts.{Before}
+use Rattle.order_law.specs.{declared.edges.Edge.Edge, Conflicts.Before}
 use Rattle.dep_graph.specs.declared.sets.TestSet.{TestSet}
 use Rattle.dep_graph.proofs.RowLaws.{past_rows}
 use Rattle.dep_graph.proofs.graph.Graph.before.Goals as goal

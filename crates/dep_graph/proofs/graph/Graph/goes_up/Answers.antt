@@ -1,7 +1,6 @@
 -- The type keeps it, for at most 1,024 tests.
 use Rattle.std.proofs.Common.{List, sym, subst, arith, ◌≤◌}
-use Rattle.order_law.specs.declared.edges.Edge.{Edge}
-use Rattle.order_law.specs.Conflicts.{HasEdge}
+use Rattle.order_law.specs.{declared.edges.Edge.Edge, Conflicts.HasEdge}
 use Rattle.dep_graph.proofs.graph.Graph.goes_up.Goals as goal
 
 pub returns : goal.returns

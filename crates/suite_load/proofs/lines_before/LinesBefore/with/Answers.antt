@@ -1,6 +1,5 @@
 use Rattle.std.proofs.Common.{◌∷◌, ◌++◌, [], List, ℕ, true, sym, ap, ◌∙◌}
-use Rattle.std.proofs.Math.Bool.{or-false, or-true}
-use Rattle.std.proofs.lemmas.List.{map-append}
+use Rattle.std.proofs.{Math.Bool.or-false, Math.Bool.or-true, lemmas.List.map-append}
 use Rattle.suite_load.specs.declared.suite_line.SuiteLine.TheVariants.{Header, Budget, Class, File, Test, End}
 use Rattle.suite_load.specs.SuiteForm.{suite_from}
 use Rattle.suite_load.proofs.SummaryLaws.{summary_more}

@@ -1,6 +1,5 @@
 use Rattle.std.proofs.Common.{◌≡◌, ℕ, List, sym, subst, ap, ◌∙◌}
-use Rattle.jvm_model.specs.declared.program.Program.{Program}
-use Rattle.jvm_model.specs.{Suite.opening, World.World}
+use Rattle.jvm_model.specs.{declared.program.Program.Program, Suite.opening, World.World}
 use Rattle.type_frames.specs.TypedState.{TypedWorld}
 use Rattle.test_run.specs.Running.{IsAfter}
 use Rattle.test_run.proofs.After.{after_none}

@@ -1,6 +1,5 @@
 use Rattle.std.proofs.Common.{ℕ, List, sym, subst, ◌∙◌}
-use Rattle.jvm_model.specs.declared.program.Program.{Program}
-use Rattle.jvm_model.specs.World.{World}
+use Rattle.jvm_model.specs.{declared.program.Program.Program, World.World}
 use Rattle.type_frames.specs.TypedState.{TypedWorld}
 use Rattle.check_sound.specs.ReachLaw.{HasStackLimits}
 use Rattle.test_run.specs.Running.{IsAfter}

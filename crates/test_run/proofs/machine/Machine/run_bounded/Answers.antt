@@ -1,6 +1,5 @@
 use Rattle.std.proofs.Common.{◌≡◌, ◌≤◌, [], ◌∷◌, ◌++◌, IfSome, Some, false, sym, subst, ap, ◌∙◌}
-use Rattle.jvm_model.specs.declared.program.Program.{Program}
-use Rattle.jvm_model.specs.{State.test_at, Suite.last_outcome, Suite.one_test}
+use Rattle.jvm_model.specs.{declared.program.Program.Program, State.test_at, Suite.last_outcome, Suite.one_test}
 use Rattle.type_frames.specs.TypedState.{TypedWorld}
 use Rattle.test_run.specs.{Outcomes.given_in, Running.Machined}
 use Rattle.test_run.proofs.After.{last_now, stands_now}

@@ -1,8 +1,6 @@
 use Rattle.std.proofs.Common.{◌≡◌, ◌+◌, ◌++◌, ◌∷◌, [], ℕ, suc, List, take, drop, get_or, sym, subst, arith}
-use Rattle.std.proofs.Math.Seq.{split_at}
-use Rattle.std.proofs.lemmas.{List.take_more, Result.err_from_is_err_and}
-use Rattle.jvm_model.specs.declared.program.Program.{Program}
-use Rattle.jvm_model.specs.State.{test_at}
+use Rattle.std.proofs.{Math.Seq.split_at, lemmas.List.take_more, lemmas.Result.err_from_is_err_and}
+use Rattle.jvm_model.specs.{declared.program.Program.Program, State.test_at}
 use Rattle.test_run.specs.{Lists.RanBefore, Lists.RanList, Lists.RanNext, Running.IsRefused}
 use Rattle.test_run.proofs.Lists.{before_at, longer, ran_more, refused_at, same_program}
 use Rattle.test_run.proofs.machine.Machine.run_list.Goals as goal

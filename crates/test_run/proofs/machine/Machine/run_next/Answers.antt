@@ -1,7 +1,6 @@
 use Rattle.std.proofs.Common.{◌≡◌, ℕ, ap, subst, sym, ◌∙◌}
 use Rattle.std.proofs.lemmas.Result.{err_from_is_err_and}
-use Rattle.jvm_model.specs.declared.program.Program.{Program}
-use Rattle.jvm_model.specs.{State.test_at, Suite.one_test}
+use Rattle.jvm_model.specs.{declared.program.Program.Program, State.test_at, Suite.one_test}
 use Rattle.test_run.specs.Running.{IsRefused, Machined}
 use Rattle.test_run.proofs.Lists.{none_before, one_before, ran_next}
 use Rattle.test_run.proofs.machine.Machine.run_next.Goals as goal

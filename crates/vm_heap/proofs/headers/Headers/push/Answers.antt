@@ -1,6 +1,5 @@
 use Rattle.std.proofs.Common.{ap, ◌∙◌, ◌++◌, ◌∷◌, [], None, List}
-use Rattle.vm_heap.specs.declared.header.Header.{Header}
-use Rattle.vm_heap.specs.Entries.{Entry, entry, entries}
+use Rattle.vm_heap.specs.{declared.header.Header.Header, Entries.Entry, Entries.entry, Entries.entries}
 use Rattle.vm_heap.proofs.Entries.{entries_last}
 use Rattle.vm_heap.proofs.headers.Headers.push.Goals as goal
 

@@ -1,6 +1,5 @@
 use Rattle.std.proofs.Common.{◌≡◌, ℕ, ◌<◌, [], length, get_or}
-use Rattle.jvm_model.specs.declared.values.Kind.TheVariants.{Class}
-use Rattle.jvm_model.specs.Classes.{fields_of}
+use Rattle.jvm_model.specs.{declared.values.Kind.TheVariants.Class, Classes.fields_of}
 use Rattle.vm_mem.proofs.layouts.Layouts.of.Given as goal
 
 abbrev pub invariant-loop-class : goal.invariant-loop-class

@@ -1,6 +1,5 @@
 use Rattle.std.proofs.Common.{◌≡◌, nat_eq, drop}
-use Rattle.jvm_model.specs.declared.values.Value.TheVariants.{Null}
-use Rattle.jvm_model.specs.World.{look}
+use Rattle.jvm_model.specs.{declared.values.Value.TheVariants.Null, World.look}
 use Rattle.vm_mem.proofs.object.Object.field.Given as goal
 
 abbrev pub invariant-loop-number : goal.invariant-loop-number
