@@ -1,5 +1,5 @@
 -- Each step keeps the rule.
-use Rattle.std.proofs.Common.{◌≡◌, ◌≢◌, ℕ, zero, suc, ◌+◌, ◌-◌, ◌<◌, ◌≤◌, Bool, true, false, cond, nat_lt, true≢false, List, [], ◌∷◌, ◌++◌, length, drop, take, set, sym, refl, ap, ◌∙◌, subst, ⊎_elim, zero-le, arith, All}
+use Rattle.std.proofs.Common.{◌≡◌, ◌≢◌, ℕ, zero, suc, ◌+◌, ◌-◌, ◌<◌, ◌≤◌, Bool, true, false, cond, nat_lt, true≢false, List, [], ◌∷◌, ◌++◌, length, drop, take, set, sym, refl, ap, ◌∙◌, subst, ⊎_elim, zero-le, arith}
 use Rattle.std.proofs.{lemmas.Bool.Decides.nat_tests, lemmas.List.Sums.sum_by_push}
 use Rattle.std.proofs.lemmas.List.{drop-append-le, drop-drop, length-set, length-append, length-drop}
 use mathlib.Core.Option.{some, some-injective, some-ne-none}
@@ -7,7 +7,7 @@ use lib.ListN.{get_elem?}
 use Rattle.crossbeam_deque.specs.Tasks.{Pushes, Takes, Finds, Forks, Merges, Learns}
 use Rattle.crossbeam_deque.proofs.Lists.{at_set, at_snoc, set_here, set_else}
 use Rattle.chain_deque.specs.declared.rule.{Chain.Chain, Seen.Seen}
-use Rattle.chain_deque.specs.Rule.{seen, times, once_below, live_count, times_taken, Fits, Kept, pushed_more, took_more, TookOne, HasAll, Emptied, AllHere, lent, thief_of, joined, spent}
+use Rattle.chain_deque.specs.Rule.{seen, times, once_below, live_count, times_taken, Fits, Kept, pushed_more, took_more, TookOne, Emptied, AllHere, lent, thief_of, joined, spent}
 use Rattle.chain_deque.proofs.Totals.{at_lt, total_set, total_at, total_none, times_append, once_more, below}
 
 -- 1 for a pass that takes part

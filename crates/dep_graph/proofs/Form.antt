@@ -1,11 +1,11 @@
 -- The edges of a record's form, in their order.
-use Rattle.std.proofs.Common.{◌≡◌, ◌⊎◌, ℕ, zero, suc, ◌<◌, ◌≤◌, ◌^◌, Bool, true, ◌&&◌, ◌||◌, nat_eq, nat_lt, nat_le, List, [], ◌∷◌, length, take, drop, refl, sym, ◌∙◌, ap, subst, inl, inr, arith}
+use Rattle.std.proofs.Common.{◌≡◌, ◌⊎◌, ℕ, zero, suc, ◌<◌, ◌≤◌, ◌^◌, true, ◌&&◌, ◌||◌, nat_eq, nat_lt, nat_le, List, [], ◌∷◌, length, take, drop, refl, sym, subst, inl, inr, arith}
 use Rattle.std.specs.List.{list_all}
 use Rattle.std.proofs.lemmas.Bool.{and_parts, or_cases, ltb-true, leb-true, eqb-true}
 use Rattle.order_law.specs.{declared.edges.Edge.Edge, declared.edges.EdgeKind.EdgeKind, Conflicts.HasEdge}
 use Rattle.order_law.specs.RecordForm.{are_units, is_edge, is_place_text, kind_number, edge_before, edges_ascend, is_record_form}
 use Rattle.dep_graph.specs.Graphs.{GoUp, AreOrdered}
-use Rattle.dep_graph.proofs.Edges.{edge_taken, edge_dropped}
+use Rattle.dep_graph.proofs.Edges.{edge_dropped}
 
 -- later tests, then earlier ones, then kinds
 abbrev Comes : ℕ → ℕ → EdgeKind → ℕ → ℕ → EdgeKind → Type 0

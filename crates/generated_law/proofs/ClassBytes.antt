@@ -9,7 +9,7 @@ use Rattle.class_pool.specs.{declared.pool.Entry.Entry, declared.pool.Entry.TheV
 use Rattle.class_pool.specs.{Grammar.Then, Grammar.Joined, Grammar.Counted, Grammar.Sized, PoolGrammar.pool_spelling}
 use Rattle.class_pool.proofs.WriteLaw.{pool_written}
 use Rattle.class_reader.specs.{declared.parts.MemberPart.MemberPart, Indices.Short, Indices.Index, Indices.Form, Faults.with_offsets}
-use Rattle.class_reader.specs.Names.{is_code, is_constant_value, is_own_class, is_field_name, is_field_type, is_method_type, same_text, is_repeated}
+use Rattle.class_reader.specs.Names.{is_code, is_own_class, is_field_name, is_field_type, is_method_type, same_text, is_repeated}
 use Rattle.class_reader.specs.Names as forms
 use Rattle.class_reader.specs.ClassGrammar.{OnceText, AttributesText, PartText, FieldText, FieldsText, MethodText, MethodsText, HeadText, MembersText, BodyText, class_bytes}
 use Rattle.class_reader.proofs.ClassLaw.{class_again}

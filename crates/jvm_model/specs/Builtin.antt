@@ -16,9 +16,6 @@ system_class = 3
 abbrev pub stream_class : ℕ
 stream_class = 4
 
-abbrev pub files_class : ℕ
-files_class = 5
-
 abbrev pub env_class : ℕ
 env_class = 6
 
@@ -28,17 +25,8 @@ throwable_class = 7
 abbrev pub error_class : ℕ
 error_class = 8
 
-abbrev pub exception_class : ℕ
-exception_class = 9
-
 abbrev pub assertion_error : ℕ
 assertion_error = 10
-
-abbrev pub linkage_error : ℕ
-linkage_error = 11
-
-abbrev pub machine_error : ℕ
-machine_error = 12
 
 abbrev pub initializer_error : ℕ
 initializer_error = 13
@@ -58,9 +46,6 @@ instantiation_error = 17
 abbrev pub stack_overflow_error : ℕ
 stack_overflow_error = 18
 
-abbrev pub runtime_exception : ℕ
-runtime_exception = 19
-
 abbrev pub arithmetic_exception : ℕ
 arithmetic_exception = 20
 
@@ -76,26 +61,11 @@ negative_size_exception = 23
 abbrev pub null_pointer_exception : ℕ
 null_pointer_exception = 24
 
-abbrev pub index_exception : ℕ
-index_exception = 25
-
-abbrev pub argument_exception : ℕ
-argument_exception = 26
-
-abbrev pub state_exception : ℕ
-state_exception = 27
-
-abbrev pub operation_exception : ℕ
-operation_exception = 28
-
 abbrev pub array_index_exception : ℕ
 array_index_exception = 29
 
 abbrev pub string_index_exception : ℕ
 string_index_exception = 30
-
-abbrev pub number_format_exception : ℕ
-number_format_exception = 31
 
 -- how many built-in classes there are; a given class J of the suite has the number 31 + J
 abbrev pub builtin_count : ℕ

@@ -1,5 +1,5 @@
 -- The text of a location is in the form of a record's.
-use Rattle.std.proofs.Common.{◌≡◌, ℕ, zero, suc, ◌+◌, ◌/◌, ◌%◌, ◌^◌, ◌<◌, ◌≤◌, Bool, true, false, ◌&&◌, ◌||◌, ◌==◌, if◌then◌else◌, nat_lt, nat_le, cond, List, [], ◌∷◌, ◌++◌, take, length, codes, decimal, refl, ◌∙◌, ap, arith, inl, inr}
+use Rattle.std.proofs.Common.{◌≡◌, ℕ, zero, suc, ◌+◌, ◌/◌, ◌%◌, ◌^◌, ◌<◌, ◌≤◌, Bool, true, false, ◌&&◌, ◌||◌, ◌==◌, if◌then◌else◌, nat_lt, nat_le, List, [], ◌∷◌, ◌++◌, take, length, codes, decimal, refl, ◌∙◌, arith, inl, inr}
 use Rattle.std.specs.{List.list_all, List.flat_map, Fmt.digit_glyph, Str.Parse.AllDigits}
 use Rattle.std.proofs.lemmas.Bool.{cases_Bool, and_from, and_parts, or_cases, le-leb, leb-true, leb-false, ltb-true, ltb-false, eqb-true}
 use Rattle.std.proofs.lemmas.{Fmt.decimal_is_IsNumeral, List.length-append, List.length-take-le, Str.Parse.digit_from_value, List.Folds.list_all-append}

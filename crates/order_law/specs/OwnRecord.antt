@@ -27,15 +27,9 @@ first_places (L ∷ ls) = L ∷ filter (λ M. not (same L M)) (first_places ls)
 abbrev pub places_in : Touches → ℕ → List Location
 places_in T t = first_places (map (λ (x : Touch). x.location) (T t))
 
-abbrev pub places_touched : Program → ℕ → List Location
-places_touched p t = places_in (touches_of p) t
-
 -- those at which there is a conflict of the kind
 unfoldable pub conflict_places_in : Touches → EdgeKind → ℕ → ℕ → List Location
 conflict_places_in T k u t = filter (λ L. conflicts (writes_in T) (exposed_in T) k u t L) (places_in T t)
-
-abbrev pub conflict_places : Program → EdgeKind → ℕ → ℕ → List Location
-conflict_places p k u t = conflict_places_in (touches_of p) k u t
 
 -- how many objects a test makes in the suite's own order
 abbrev pub made_by : Program → ℕ → ℕ

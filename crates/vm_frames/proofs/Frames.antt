@@ -1,5 +1,5 @@
 -- How a frame's locals are written, one argument after another.
-use Rattle.std.proofs.Common.{◌≡◌, ℕ, zero, suc, ◌<◌, ◌≤◌, ◌-◌, ◌+◌, ◌*◌, ◌^◌, max, List, [], ◌∷◌, ◌++◌, length, get_or, set, take, drop, replicate, cond, refl, sym, ap, ◌∙◌, arith, append_assoc}
+use Rattle.std.proofs.Common.{◌≡◌, ℕ, ◌<◌, ◌≤◌, ◌-◌, ◌+◌, ◌^◌, max, List, [], ◌∷◌, ◌++◌, length, get_or, set, take, drop, replicate, cond, refl, sym, ap, ◌∙◌, arith, append_assoc}
 use Rattle.std.proofs.lemmas.List.{take_more_set, take_more, take-take, drop-append-le, replicate_more, take_at, take-append-le, get_or-take, length-take-le, length-append}
 use Rattle.jvm_model.specs.{declared.values.Value.Value, Entries.slots_of, Entries.filled, RowsMoves.is_long}
 use Rattle.jvm_model.specs.declared.values.Value.TheVariants.{Int, Long, Null, Lit, Obj}

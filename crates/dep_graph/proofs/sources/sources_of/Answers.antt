@@ -1,5 +1,5 @@
 -- Each edge is the next one of an ordered record.
-use Rattle.std.proofs.Common.{◌≡◌, ◌+◌, ◌≤◌, ◌<◌, ℕ, List, [], ◌∷◌, ◌++◌, length, take, get_or, set, sym, subst, ap, ◌∙◌, arith, Vec, Global}
+use Rattle.std.proofs.Common.{◌≡◌, ◌+◌, ◌≤◌, ◌<◌, ℕ, List, [], length, take, sym, subst, ap, ◌∙◌, arith, Vec, Global}
 use Rattle.et_base.specs.declared.items.Items.{Items}
 use Rattle.order_law.specs.declared.edges.{EdgeKind.EdgeKind, EdgeKind.TheVariants.Raw, EdgeKind.TheVariants.Waw, EdgeKind.TheVariants.War}
 use Rattle.dep_graph.specs.Graphs.{AreSources}

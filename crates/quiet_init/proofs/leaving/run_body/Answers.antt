@@ -1,4 +1,4 @@
-use Rattle.quiet_init.proofs.Leaves.{entered_can, entered_leaves, empty_again}
+use Rattle.quiet_init.proofs.Leaves.{entered_can, entered_leaves}
 use Rattle.quiet_init.proofs.leaving.run_body.Goals as goal
 
 pub step_through-requires : goal.step_through-requires

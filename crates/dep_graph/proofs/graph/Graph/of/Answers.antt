@@ -1,7 +1,7 @@
 -- The form of the record gives what the rows and lists ask.
 use Rattle.std.proofs.Common.{List, sym, subst, ◌∙◌, ◌+◌}
 use Rattle.order_law.specs.declared.edges.Edge.{Edge}
-use Rattle.dep_graph.specs.Graphs.{AreOrdered, AreRows, AreSources}
+use Rattle.dep_graph.specs.Graphs.{AreRows, AreSources}
 use Rattle.dep_graph.proofs.Form.{few_at, ordered_at}
 use Rattle.dep_graph.proofs.graph.Graph.of.Goals as goal
 

@@ -1,5 +1,5 @@
 -- The words before this one are joined, and the others as before.
-use Rattle.std.proofs.Common.{◌≡◌, ℕ, ◌<◌, ◌≤◌, get_or, length}
+use Rattle.std.proofs.Common.{◌≡◌, ℕ, ◌<◌, ◌≤◌, get_or}
 use Rattle.std.specs.Int.Bits.{bit_or}
 use Rattle.dep_graph.proofs.sets.TestSet.join.Given as goal
 
