@@ -4,8 +4,9 @@
 ghost use Rattle.std.specs.Prelude.{◌≡◌, ℕ, ◌<◌, ◌++◌, [], All, IfOk, OnOk, false, flat_map, get_or, length, nat_eq};
 ghost use Rattle.indexmap.specs.IndexSet.{insert_all};
 ghost use Rattle.jvm_model.specs.Classes as classes;
-ghost use Rattle.jvm_model.specs.{Classes.member, Classes.upwards_in, Classes.upwards, Selection.all_interfaces, Linked.Linked, Linked.IsClass};
+ghost use Rattle.jvm_model.specs.Classes.{member, upwards_in, upwards};
 ghost use Rattle.jvm_model.specs.Kinds as kinds;
+ghost use Rattle.jvm_model.specs.{Selection.all_interfaces, Linked.Linked, Linked.IsClass};
 ghost use Rattle.vm_tables.specs.Hierarchy.{AreBelow, AreImplemented, AreInterfaces, AreOwn};
 
 use crate::interfaces::own_interfaces;
@@ -86,7 +87,7 @@ impl Hierarchy {
 
     /// Whether an instance of a class or interface is one of another.
     #[tactic(auto, unfolding(jvm_model::specs::Kinds::class_fits))]
-    fn class_fits(&self, class: u32, other: u32) -> bool
+    pub(crate) fn class_fits(&self, class: u32, other: u32) -> bool
         ensures { result ≡ kinds.class_fits self.now class other }
     {
         self.is_below(class, other) || self.implements(class, other)
@@ -185,10 +186,19 @@ fn all_own(alloc: Global, p: &Program) -> Result<Items<Items<u32>>, NoMemory>
 {
     let mut table = Items::new(alloc);
     for class in 0..p.classes.len() as u32 {
-        let own = own_interfaces(alloc, p, class)?;
-        table.push(Items::from_slice(alloc, own.as_slice())?)?;
+        table.push(own_of(alloc, p, class)?)?;
     }
     Ok(table)
+}
+
+/// The interfaces that a class or interface reaches by its own entries.
+fn own_of(alloc: Global, p: &Program, class: u32) -> Result<Items<u32>, NoMemory>
+    requires linked { Linked p.now }
+    requires there { IsClass p.now class }
+    ensures { IfOk result (λ own. own ≡ classes.own_interfaces p.now class) }
+{
+    let own = own_interfaces(alloc, p, class)?;
+    Items::from_slice(alloc, own.as_slice())
 }
 
 /// Appends a class and those above it, at most so many steps up.
