@@ -55,6 +55,14 @@ impl FrameStack {
         }
     }
 
+    /// Takes all entries. The room that they had stays, so that the next test makes none.
+    pub fn clear(&mut self)
+        ensures { self.new ≡ no_entries }
+    {
+        self.saved.clear();
+        self.current = Extent::NONE;
+    }
+
     /// Whether as many entries stand as may: 1,024.
     pub fn is_full(&self) -> bool
         ensures { result ≡ is_full self.now }
