@@ -11,6 +11,7 @@ use et_base::NoMemory;
 use std::alloc::Global;
 use std::test::Fail;
 use type_frames::{Checked, started_law};
+use vm_frames::FrameStack;
 use vm_interp::{State, StepOutcome, stack_limits, step};
 
 // What the first step of the second test, begun in the opening world, leaves of these units where
@@ -50,7 +51,7 @@ fn first_step(alloc: Global, checked: &Checked, units: u64) -> Result<Option<u64
     requires { length checked.now.tests ≡ 2 }
 {
     let mut parts = parts_of(alloc, checked)?;
-    let mut state = State::start(alloc, checked.program(), 2)?;
+    let mut state = State::start(alloc, checked.program(), 2, FrameStack::new(alloc))?;
     stepped(alloc, checked, &mut parts, &mut state, units)
 }
 

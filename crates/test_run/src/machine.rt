@@ -19,6 +19,7 @@ use std::marker::Model;
 use std::sync::ledger::Ledger;
 use type_frames::Checked;
 use vm_calls::Selections;
+use vm_frames::FrameStack;
 use vm_heap::RegionMemory;
 use vm_interp::stack_limits;
 use vm_mem::Memory;
@@ -31,6 +32,7 @@ pub struct Machine<'p, M: Memory> {
     checked: &'p Checked,
     tables: Tables<'p>,
     selections: Selections,
+    frames: FrameStack,
     worker: u32,
     memory: M,
     list: Items<u32>,
@@ -84,6 +86,7 @@ impl<'p, M: Memory> Machine<'p, M> {
             checked: p,
             tables,
             selections,
+            frames: FrameStack::new(alloc),
             worker,
             memory,
             list: Items::new(alloc),
@@ -148,6 +151,7 @@ impl<'p, M: Memory> Machine<'p, M> {
             &mut self.memory,
             &self.tables,
             &mut self.selections,
+            &mut self.frames,
             test,
             budget,
         )?;

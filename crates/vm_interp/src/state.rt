@@ -2,6 +2,7 @@
 
 ghost use Rattle.std.specs.Prelude.{◌≡◌, true, false, IfOk};
 ghost use Rattle.jvm_model.specs.State as states;
+ghost use Rattle.jvm_model.specs.Entries.{no_entries};
 ghost use Rattle.vm_interp.specs.{Reaching.IsRunning, Abs.abs};
 
 use et_base::{NoMemory, Text};
@@ -21,14 +22,15 @@ pub struct State {
 }
 
 impl State {
-    /// The state in which a test starts: no entries, and nothing printed.
-    pub fn start(alloc: Global, p: &Program, test: u32) -> Result<State, NoMemory>
+    /// The state in which a test starts: no entries, and nothing printed. The room for entries is handed on.
+    pub fn start(alloc: Global, p: &Program, test: u32, frames: FrameStack) -> Result<State, NoMemory>
+        requires { frames ≡ no_entries }
         ensures { IfOk result (λ s. abs s ≡ states.started p.now test) }
     {
         let entry = test_entry(p, test);
         Ok(State {
             test,
-            frames: FrameStack::new(alloc),
+            frames,
             stage: Stage::First,
             raised: None,
             own: Own {
