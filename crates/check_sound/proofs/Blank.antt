@@ -2,7 +2,7 @@
 use Rattle.std.proofs.Common.{◌≡◌, ℕ, zero, suc, ◌<◌, ◌-◌, ◌+◌, List, [], ◌∷◌, ◌++◌, ◌⊎◌, length, map, get_or, slice_get, Bool, true, false, not, ◌||◌, cond, nat_eq, nat_lt, pos, Some, None, refl, sym, ◌∙◌, ap, subst, arith, inl, inr}
 use Rattle.std.specs.Prelude.{filter}
 use Rattle.std.specs.List.{list_all}
-use Rattle.std.proofs.lemmas.Bool.{cases_Bool, not-true, or_cases, eqb-true, eq-eqb, ltb-true, ltb-false}
+use Rattle.std.proofs.lemmas.Bool.{cases_Bool, not-true, or_cases, eqb-true, eq-eqb, ltb-true, ltb-false, or_left, or_right}
 use Rattle.std.proofs.lemmas.{List.length-replicate, List.get_or-replicate, Option.slice_get-get_or}
 use Rattle.jvm_model.specs.declared.{values.Value.Value, values.Base.Base, values.Kind.Kind, values.Head.Head, program.Program.Program}
 use Rattle.jvm_model.specs.declared.values.Value.TheVariants as value
@@ -107,20 +107,12 @@ module _ (p : Program) (ty : IsTyped p) where
   filtered g f [] m = absurd (cc)
   filtered g f (x ∷ xs) m = by (g x) refl m (filtered g f xs)
     where
-      more : (a b : Bool) → b ≡ true → (a || b) ≡ true
-      more true b e = refl
-      more false b e = e
-
-      front : (a b : Bool) → a ≡ true → (a || b) ≡ true
-      front true b e = refl
-      front false b e = absurd (cc)
-
       by : (b : Bool) → g x ≡ b → member f (cond b (x ∷ filter g xs) (filter g xs)) ≡ true → (member f (filter g xs) ≡ true → (member f xs ≡ true) × (g f ≡ true)) → (member f (x ∷ xs) ≡ true) × (g f ≡ true)
       by true q m k = elim (or_cases (nat_eq f x) (member f (filter g xs)) m) [
-        | inl e ↦ (front (nat_eq f x) (member f xs) e, subst (λ (y : ℕ). g y ≡ true) (sym (eqb-true f x e)) q)
-        | inr e ↦ let r = k e in (more (nat_eq f x) (member f xs) r.0, r.1)
+        | inl e ↦ (or_left (nat_eq f x) (member f xs) e, subst (λ (y : ℕ). g y ≡ true) (sym (eqb-true f x e)) q)
+        | inr e ↦ let r = k e in (or_right (nat_eq f x) (member f xs) r.0, r.1)
       ]
-      by false q m k = let r = k m in (more (nat_eq f x) (member f xs) r.0, r.1)
+      by false q m k = let r = k m in (or_right (nat_eq f x) (member f xs) r.0, r.1)
 
   member_index : (f : ℕ) (xs : List ℕ) → member f xs ≡ true → (k : ℕ) × (k < length xs) × (get_or xs k 0 ≡ f)
   member_index f [] m = absurd (cc)
@@ -132,17 +124,9 @@ module _ (p : Program) (ty : IsTyped p) where
   any_parts : (f : ℕ) (xs ys : List ℕ) → member f (xs ++ ys) ≡ true → (member f xs ≡ true) ⊎ (member f ys ≡ true)
   any_parts f [] ys m = inr m
   any_parts f (x ∷ xs) ys m = elim (or_cases (nat_eq f x) (member f (xs ++ ys)) m) [
-    | inl e ↦ inl (front (nat_eq f x) (member f xs) e)
-    | inr e ↦ elim (any_parts f xs ys e) [ inl l ↦ inl (more (nat_eq f x) (member f xs) l) | inr r ↦ inr r ]
+    | inl e ↦ inl (or_left (nat_eq f x) (member f xs) e)
+    | inr e ↦ elim (any_parts f xs ys e) [ inl l ↦ inl (or_right (nat_eq f x) (member f xs) l) | inr r ↦ inr r ]
   ]
-    where
-      more : (a b : Bool) → b ≡ true → (a || b) ≡ true
-      more true b e = refl
-      more false b e = e
-
-      front : (a b : Bool) → a ≡ true → (a || b) ≡ true
-      front true b e = refl
-      front false b e = absurd (cc)
 
   -- a field of a layout is an instance field of the program
   pub record PlainField (f : ℕ) : Type 0 where
@@ -152,21 +136,13 @@ module _ (p : Program) (ty : IsTyped p) where
   in_layout : (f : ℕ) (cs : List ℕ) → ((c : ℕ) → member c cs ≡ true → IsClass p c) → member f (layout_in p cs) ≡ true → PlainField f
   in_layout f [] k m = absurd (cc)
   in_layout f (c ∷ cs) k m = elim (any_parts f (layout_in p cs) (plain_fields p c) m) [
-    | inl l ↦ in_layout f cs (λ d q. k d (more (nat_eq d c) (member d cs) q)) l
+    | inl l ↦ in_layout f cs (λ d q. k d (or_right (nat_eq d c) (member d cs) q)) l
     | inr r ↦
         let q = filtered (λ g. not (is_static (field_at p g).flags)) f (class_at p c).fields r in
         let i = member_index f (class_at p c).fields q.0 in
-        let n = ty.linked.numbers.classes c (k c (front (nat_eq c c) (member c cs) (eq-eqb c c refl))) in
+        let n = ty.linked.numbers.classes c (k c (or_left (nat_eq c c) (member c cs) (eq-eqb c c refl))) in
         record { is_field = subst (λ (y : ℕ). IsField p y) i.2 (n.fields i.0 0 i.1); plain = not-true _ q.1 }
   ]
-    where
-      more : (a b : Bool) → b ≡ true → (a || b) ≡ true
-      more true b e = refl
-      more false b e = e
-
-      front : (a b : Bool) → a ≡ true → (a || b) ≡ true
-      front true b e = refl
-      front false b e = absurd (cc)
 
   pub layout_field : (c f : ℕ) → IsClass p c → member f (layout p c) ≡ true → PlainField f
   unfolding layout

@@ -2,7 +2,7 @@
 use Rattle.std.proofs.Common.{◌≡◌, ℕ, zero, suc, ◌+◌, ◌-◌, ◌<◌, ◌≤◌, List, [], ◌∷◌, ◌++◌, length, take, drop, reverse, Bool, true, false, not, ◌&&◌, ◌||◌, cond, nat_eq, nat_le, Option, Some, None, slice_get, refl, sym, ◌∙◌, ap, subst, arith, inl, inr, length-append}
 use Rattle.std.specs.Prelude.{flat_map, slice_index_or}
 use Rattle.std.specs.{List.IsDistinct, Str.bytes_eq}
-use Rattle.std.proofs.lemmas.Bool.{or_cases, and_parts, leb-true, leb-false, eqb-true}
+use Rattle.std.proofs.lemmas.Bool.{or_cases, and_parts, leb-true, leb-false, eqb-true, and_right}
 use Rattle.std.proofs.lemmas.List.{length-drop, reverse-append, reverse-reverse, length-reverse, append_assoc}
 use Rattle.std.proofs.Math.Seq.{take-append_seam, drop-append_seam}
 use Rattle.jvm_model.specs.declared.values.{Value.Value, Kind.Kind}
@@ -33,7 +33,7 @@ use Rattle.type_frames.specs.TypedState.{is_class_with, kind_at, IsInRange, IsIn
 use Rattle.check_sound.proofs.{Tree.typed_done, Tree.typed_spend, Grow.Ranged, Arrive.has_number, Ends.fault_typed, Ends.using-typed}
 use Rattle.check_sound.proofs.Held.{refers_fits, Is, Held, IsShort, held_over, locals_over, is_fits}
 use Rattle.check_sound.proofs.Operands.{Operands, IsPop, popped, none_there, rest_of, choose-typed, on_reference-typed, with_kind-typed, refers_nullable, IsNonNull, IsKindOf}
-use Rattle.check_sound.proofs.Ready.{TypedEntries, stub, closed, below_same, Takes, Gives, operand_types, NativeCall, Enters, Ends, Row, Ready, here, sides_at, rest, operands, next_typed, raised_typed, waits_typed, names_form, form_kind, form_found}
+use Rattle.check_sound.proofs.Ready.{TypedEntries, stub, closed, below_same, Takes, Gives, operand_types, NativeCall, Enters, Ends, Row, Ready, here, sides_at, rest, operands, next_typed, raised_typed, waits_typed, names_form, form_kind, form_found, ranged_append}
 use Rattle.check_sound.proofs.Thrown.{builtin_is, abstract_thrown, overflow_thrown, null_pointer_thrown}
 use Rattle.check_sound.proofs.CallEffects.{values_few, on_stack_length, this_of, CallEffects, call_of, Result, push}
 use Rattle.check_sound.proofs.{ReturnRows.home, ReturnRows.named_class, ParameterTexts.AreTexts}
@@ -72,13 +72,9 @@ reverse_range p w vs us h = back vs (first vs h)
     first [] h = tt
     first (x ∷ xs) h = (h.0, first xs h.1)
 
-    join : (xs ys : List Value) → Ranged p w xs → Ranged p w ys → Ranged p w (xs ++ ys)
-    join [] ys h g = g
-    join (x ∷ xs) ys h g = (h.0, join xs ys h.1 g)
-
     back : (xs : List Value) → Ranged p w xs → Ranged p w (reverse xs)
     back [] h = tt
-    back (x ∷ xs) h = subst (λ (zs : List Value). Ranged p w zs) (sym (reverse-append (x ∷ []) xs)) (join (reverse xs) (x ∷ []) (back xs h.1) (h.0, tt))
+    back (x ∷ xs) h = subst (λ (zs : List Value). Ranged p w zs) (sym (reverse-append (x ∷ []) xs)) (ranged_append p w (reverse xs) (x ∷ []) (back xs h.1) (h.0, tt))
 
 module _ (p : Program) (ty : IsTyped p) {w : World} {s : Entries} {i : Instr} (r : Ready p w s i) where
   abbrev SameAs : ℕ → ℕ → Type 0
@@ -290,12 +286,8 @@ module _ (p : Program) (ty : IsTyped p) {w : World} {s : Entries} where
 not_started : (p : Program) (m n : MethodRec) → n.name ≡ m.name → not (bytes_eq m.name clinit_name || bytes_eq m.name init_name) ≡ true → is_constructor n ≡ false
 not_started p m n e c = by (bytes_eq m.name clinit_name) (bytes_eq m.name init_name) refl c
   where
-    last : (a b : Bool) → b ≡ false → (a && b) ≡ false
-    last true b e = e
-    last false b e = refl
-
     by : (a b : Bool) → bytes_eq m.name init_name ≡ b → not (a || b) ≡ true → is_constructor n ≡ false
-    by a false q c = last (not (is_static n.flags)) (bytes_eq n.name init_name) (ap (λ (x : List ℕ). bytes_eq x init_name) e ∙ q)
+    by a false q c = and_right (not (is_static n.flags)) (bytes_eq n.name init_name) (ap (λ (x : List ℕ). bytes_eq x init_name) e ∙ q)
     by true true q c = absurd (cc)
     by false true q c = absurd (cc)
 

@@ -79,7 +79,7 @@ module _ (p : Program) (w : World) where
   ranged_all [] h = tt
   ranged_all (v ∷ vs) h = (h 0 v (omega arith), ranged_all vs (λ k d g. h (suc k) d (omega arith)))
 
-  ranged_append : (vs us : List Value) → Ranged p w vs → Ranged p w us → Ranged p w (vs ++ us)
+  pub ranged_append : (vs us : List Value) → Ranged p w vs → Ranged p w us → Ranged p w (vs ++ us)
   ranged_append [] us h g = g
   ranged_append (v ∷ vs) us h g = (h.0, ranged_append vs us h.1 g)
 

@@ -2,7 +2,7 @@
 use Rattle.std.proofs.{Math.Bool.or-true, lemmas.List.Sums.sum_by-cons, lemmas.Slice.Eq.bytes_eq-Decides, Math.ListN.replicate}
 use Rattle.std.specs.{Str.bytes_eq, Option.option_and_then, Option.option_map, List.AllByRecursion, List.position_or_len, List.concat, List.sum_by}
 use Rattle.std.proofs.Common.{◌≡◌, ℕ, zero, suc, ◌+◌, ◌<◌, ◌≤◌, Bool, true, false, not, cond, eqb, ltb, leb, ◌&&◌, ◌||◌, ◌⊎◌, inl, inr, List, [], ◌∷◌, ◌++◌, length, take, drop, Option, Some, None, refl, sym, ap, subst, ◌∙◌, append_assoc, arith, position, add-zero, IsTrue, IfSome, ◌↔◌}
-use Rattle.std.proofs.lemmas.Bool.{eqb-true, ltb-true, lt-ltb, leb-true, le-leb, ltb-false, le-ltb, and_parts, or_cases}
+use Rattle.std.proofs.lemmas.Bool.{eqb-true, ltb-true, lt-ltb, leb-true, le-leb, ltb-false, le-ltb, and_parts, or_cases, not-false}
 use Rattle.std.proofs.lemmas.List.{take_at, drop_at, length-append, append-nil, length-replicate}
 use Rattle.et_base.specs.Names.{is_plain, is_class_name, is_base, after_class, after_element, after_type, ends, is_field_descriptor, after_close, closed, argument, arguments, argument_units, is_return, units_of_type}
 use Rattle.class_pool.specs.NamesGrammar.{IsElement, IsFieldType, IsMethodType}
@@ -113,13 +113,9 @@ element_again type rest (inl (c, is, base)) = ap (λ (t : List ℕ). after_eleme
 element_again type rest (inr (name, is, named)) =
     ap (λ (t : List ℕ). after_element (t ++ rest)) is ∙ ap (λ (t : List ℕ). after_class t) (append_assoc name (59 ∷ []) rest) ∙ class_again name rest named
 
-not_false : (b : Bool) → not b ≡ false → b ≡ true
-not_false true e = refl
-not_false false e = absurd cc
-
 brackets_only : (us : List ℕ) → AllByRecursion (λ u. not (eqb u 91) ≡ false) us → us ≡ replicate (length us) 91
 brackets_only [] h = refl
-brackets_only (u ∷ us) h = ap (λ n. n ∷ us) (eqb-true u 91 (not_false (eqb u 91) h.0)) ∙ ap (λ (x : List ℕ). 91 ∷ x) (brackets_only us h.1)
+brackets_only (u ∷ us) h = ap (λ n. n ∷ us) (eqb-true u 91 (not-false (eqb u 91) h.0)) ∙ ap (λ (x : List ℕ). 91 ∷ x) (brackets_only us h.1)
 
 only_brackets : (n : ℕ) → AllByRecursion (λ u. not (eqb u 91) ≡ false) (replicate n 91)
 only_brackets zero = tt

@@ -2,6 +2,7 @@
 use Rattle.std.proofs.Common.{◌≡◌, ℕ, zero, suc, ◌+◌, ◌<◌, ◌≤◌, List, [], ◌∷◌, length, map, slice_get, filter, Bool, true, false, cond, ◌==◌, refl, sym, ap, ◌∙◌, subst, inl, inr, arith, Option, Some, None, option_map, unwrap_or, IsSome, Result, Ok, Err}
 use Rattle.std.specs.{List.range_with_len, Str.bytes_eq}
 use Rattle.std.proofs.lemmas.{Bool.cases_eq, Bool.eq-eqb, Bool.false≢true, List.length-map, Slice.Eq.bytes_eq-Decides, List.FromFn.length-map-range_with_len}
+use Rattle.std.proofs.lemmas.Bool.{false_from_ne_true}
 use Rattle.sha2.specs.Sha256.{sha256}
 use Rattle.jvm_model.specs.{declared.program.Names.Names, declared.program.Program.Program, Texts.outcome_lines, Suite.is_detected, Suite.seq}
 use Rattle.order_law.specs.{declared.records.More.More, declared.records.Prints.Prints, declared.records.Record.Record, Conflicts.Member}
@@ -44,16 +45,12 @@ module _ (keeps : ℕ → Bool) where
     | inr other ↦ kept_behind (keeps a) t a (filter keeps (range_with_len (a + 1) n)) (kept_from n (a + 1) t (omega arith) (omega arith) e)
   ]
 
-not_kept : (b : Bool) → (b ≡ true → ⊥) → b ≡ false
-not_kept true h = absurd (h refl)
-not_kept false h = refl
-
 unpicked_from : (m : More) (q : Program) (x : Prints) (t : ℕ) → length m.reach ≡ length q.tests → IsTestNumber q t → (Member t (picked m q x) → ⊥) → is_picked m q x t ≡ false
 unfolding picked
 unpicked_from m q x t many number unnamed =
     let low = number.0 in
     let high = number.1 in
-    not_kept (is_picked m q x t) (λ e. unnamed (kept_from (is_picked m q x) (length m.reach) 1 t (omega arith) (omega arith) e))
+    false_from_ne_true (is_picked m q x t) (λ e. unnamed (kept_from (is_picked m q x) (length m.reach) 1 t (omega arith) (omega arith) e))
 
 -- ---- the record of the earlier state
 

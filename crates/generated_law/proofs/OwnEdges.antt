@@ -2,7 +2,7 @@
 use Rattle.std.proofs.Common.{◌≡◌, ℕ, zero, suc, ◌+◌, ◌-◌, ◌/◌, ◌%◌, ◌<◌, ◌≤◌, ◌⊎◌, inl, inr, Bool, true, false, not, ◌&&◌, ◌||◌, cond, eqb, List, [], ◌∷◌, ◌++◌, length, map, filter, flat_map, count_by, refl, sym, ap, subst, ◌∙◌, arith}
 use Rattle.std.specs.List.{range_with_len}
 use Rattle.std.proofs.lemmas.List.Sums.{sum_by-append}
-use Rattle.std.proofs.lemmas.Bool.{and_from, lt-ltb, le-ltb, eqb-true, eq-eqb, ne_eqb, both_ways}
+use Rattle.std.proofs.lemmas.Bool.{and_from, lt-ltb, le-ltb, eqb-true, eq-eqb, ne_eqb, both_ways, and_left, and_right}
 use Rattle.et_base.proofs.Cases.{by_test}
 use Rattle.jvm_model.specs.{declared.values.Touch.Touch, declared.values.Location.Location, declared.program.Program.Program, World.same}
 use Rattle.jvm_model.proofs.Locations.{same_refl}
@@ -14,13 +14,6 @@ use Rattle.generated_law.specs.GeneratedSuite.{field_number}
 use Rattle.generated_law.specs.GeneratedRecord.{static_of, touch_of, touches_at, is_raw, is_waw, is_war}
 
 -- ---- what a test writes, and what it has an exposed read of
-
-left_false : (a b : Bool) → a ≡ false → (a && b) ≡ false
-left_false a b e = ap (λ z. z && b) e
-
-right_false : (a b : Bool) → b ≡ false → (a && b) ≡ false
-right_false true b e = e
-right_false false b e = refl
 
 -- touches of the static M, seen from the static L
 abbrev touched : Bool → Bool → Location → List Touch
@@ -46,7 +39,7 @@ exposed_there true L = ap (λ b. b || (not b && false)) (same_refl L)
 exposed_there false L = ap (λ b. b || false) (same_refl L)
 
 never_exposed : (third : Bool) (L M : Location) → exposed (touched true third M) L ≡ false
-never_exposed third L M = right_false (not (same L M)) false refl
+never_exposed third L M = and_right (not (same L M)) false refl
 
 apart : (g h : ℕ) → (h ≡ g → ⊥) → same (static_of g) (static_of h) ≡ false
 apart g h differ = ne_eqb (field_number g) (field_number h) (λ e. differ (omega (arith, e)))
@@ -97,7 +90,7 @@ none_two : (W : Tests) (u : ℕ) (L : Location) → W (suc u) L ≡ false → no
 none_two W u L e = ap (λ b. cond b (not (W (suc u) L) && none_between W u (suc u) L) true) (lt-ltb u (suc u) (omega arith)) ∙ and_from _ _ (ap not e) (none_near W u L)
 
 some_between : (W : Tests) (u x : ℕ) (L : Location) → u < x → W x L ≡ true → none_between W u (suc x) L ≡ false
-some_between W u x L less e = ap (λ b. cond b (not (W x L) && none_between W u x L) true) (lt-ltb u x less) ∙ left_false (not (W x L)) (none_between W u x L) (ap not e)
+some_between W u x L less e = ap (λ b. cond b (not (W x L) && none_between W u x L) true) (lt-ltb u x less) ∙ and_left (not (W x L)) (none_between W u x L) (ap not e)
 
 -- ---- from which test an edge comes, 0 where there is none
 
@@ -272,12 +265,12 @@ module _ (T : Touches) (by : ℕ → ℕ × ℕ) (p : Program) (k : ℕ) (each :
   -- before the second and the fourth of a group, none but the one right before it writes last
   hidden : (u x : ℕ) → 1 ≤ u → u ≤ x → suc x ≤ k → ((suc x - 1) % 4 ≡ 0 → ⊥) → ((suc x - 1) % 4 ≡ 2 → ⊥) → (u ≡ x → ⊥) → (W u (seen x) && none_between W u (suc x) (seen x)) ≡ false
   hidden u x low less few later other differ = equal_by ((suc x - 1) % 4) 1
-      (λ second. left_false _ _ (far_writes u x low less few (λ e. omega (arith, e, second, less, differ, low))))
+      (λ second. and_left _ _ (far_writes u x low less few (λ e. omega (arith, e, second, less, differ, low))))
       (λ fourth. equal_by (suc u) x
-      (λ two. left_false _ _ (writes_as u (seen x) false low (omega (arith, less, few)) (odd_writes u (seen x) (omega (arith, two, fourth, later, other)))))
+      (λ two. and_left _ _ (writes_as u (seen x) false low (omega (arith, less, few)) (odd_writes u (seen x) (omega (arith, two, fourth, later, other)))))
       (λ more. equal_by (suc (suc u)) x
-      (λ three. right_false _ _ (some_between W u x (seen x) (omega (arith, three)) (writes_own x (group_of (suc x)) (omega (arith, three)) (omega (arith, few)) (omega (arith, three, fourth, later, other)) (omega (arith, three, fourth, later, other)))))
-      (λ most. left_false _ _ (far_writes u x low less few (λ e. omega (arith, e, fourth, later, other, less, differ, more, most, low))))))
+      (λ three. and_right _ _ (some_between W u x (seen x) (omega (arith, three)) (writes_own x (group_of (suc x)) (omega (arith, three)) (omega (arith, few)) (omega (arith, three, fourth, later, other)) (omega (arith, three, fourth, later, other)))))
+      (λ most. and_left _ _ (far_writes u x low less few (λ e. omega (arith, e, fourth, later, other, less, differ, more, most, low))))))
 
   -- of two tests, the first one writes last before the second one, which isn't the first of its group
   last_is : (u x : ℕ) → 1 ≤ u → u ≤ x → suc x ≤ k → ((suc x - 1) % 4 ≡ 0 → ⊥) → (W u (seen x) && none_between W u (suc x) (seen x)) ≡ eqb u (raw_from (suc x))
@@ -289,7 +282,7 @@ module _ (T : Touches) (by : ℕ → ℕ × ℕ) (p : Program) (k : ℕ) (each :
       (λ two.
       let between : none_between W u (suc x) L ≡ true = subst (λ z. none_between W u (suc z) L ≡ true) two (none_two W u L (writes_as (suc u) L false (omega arith) (omega (arith, two, few)) (odd_writes (suc u) L (omega (arith, third, two))))) in
       both _ u (raw_from (suc x)) (suc x - 2) (and_from _ _ (writes_own u g low (omega (arith, less, few)) (omega (arith, third, two, low)) (omega (arith, third, two, low))) between) (raw_third (suc x) third) (omega (arith, two)))
-      (λ differ. neither _ u (raw_from (suc x)) (suc x - 2) (left_false _ _ (not_written u x low less few third differ)) (raw_third (suc x) third) (λ e. differ (omega (arith, e, third)))))
+      (λ differ. neither _ u (raw_from (suc x)) (suc x - 2) (and_left _ _ (not_written u x low less few third differ)) (raw_third (suc x) third) (λ e. differ (omega (arith, e, third)))))
       (λ other. equal_by u x
       (λ same.
       let between : none_between W u (suc x) L ≡ true = subst (λ z. none_between W u (suc z) L ≡ true) same (none_near W u L) in
@@ -300,7 +293,7 @@ module _ (T : Touches) (by : ℕ → ℕ × ℕ) (p : Program) (k : ℕ) (each :
   raw_conflict u x low less few =
       let t = suc x in
       first_by t
-      (λ first. neither _ u (raw_from t) 0 (left_false _ _ (reads_as t (seen x) false (omega arith) few (first_reads t (seen x) first))) (raw_first t first) (λ e. omega (arith, e, low)))
+      (λ first. neither _ u (raw_from t) 0 (and_left _ _ (reads_as t (seen x) false (omega arith) few (first_reads t (seen x) first))) (raw_first t first) (λ e. omega (arith, e, low)))
       (λ later. ap (λ b. b && (W u (seen x) && none_between W u t (seen x))) (reads_own t (group_of t) (omega arith) few later refl) ∙ last_is u x low less few later)
 
   waw_conflict : (u x : ℕ) → 1 ≤ u → u ≤ x → suc x ≤ k → conflicts W E Waw u (suc x) (seen x) ≡ eqb u (waw_from (suc x))
@@ -313,10 +306,10 @@ module _ (T : Touches) (by : ℕ → ℕ × ℕ) (p : Program) (k : ℕ) (each :
       let between : none_between W u t L ≡ true = subst (λ z. none_between W u (suc z) L ≡ true) two (none_two W u L (writes_as (suc u) L false (omega arith) (omega (arith, two, few)) (odd_writes (suc u) L (omega (arith, third, two))))) in
       let own = writes_own u (group_of t) low (omega (arith, less, few)) (omega (arith, third, two, low)) (omega (arith, third, two, low)) in
       both _ u (waw_from t) (t - 2) (and_from _ _ own (and_from _ _ (writes_own t (group_of t) (omega arith) few (omega (arith, third)) refl) between)) (waw_third t third) (omega (arith, two)))
-      (λ differ. neither _ u (waw_from t) (t - 2) (left_false _ _ (not_written u x low less few third differ)) (waw_third t third) (λ e. differ (omega (arith, e, third)))))
+      (λ differ. neither _ u (waw_from t) (t - 2) (and_left _ _ (not_written u x low less few third differ)) (waw_third t third) (λ e. differ (omega (arith, e, third)))))
       (λ other. neither _ u (waw_from t) 0 (first_by t
-      (λ first. left_false _ _ (far_writes u x low less few (λ e. omega (arith, e, first, less, low))))
-      (λ later. right_false _ _ (left_false _ _ (writes_as t L false (omega arith) few (odd_writes t L (omega (arith, later, other)))))))
+      (λ first. and_left _ _ (far_writes u x low less few (λ e. omega (arith, e, first, less, low))))
+      (λ later. and_right _ _ (and_left _ _ (writes_as t L false (omega arith) few (odd_writes t L (omega (arith, later, other)))))))
       (waw_other t other) (λ e. omega (arith, e, low)))
 
   war_conflict : (u x : ℕ) → 1 ≤ u → u ≤ x → suc x ≤ k → conflicts W E War u (suc x) (seen x) ≡ eqb u (war_from (suc x))
@@ -334,10 +327,10 @@ module _ (T : Touches) (by : ℕ → ℕ × ℕ) (p : Program) (k : ℕ) (each :
       let unread : E u L ≡ false = equal_by (suc u) x
       (λ two. reads_as u L false low (omega (arith, less, few)) (first_reads u L (omega (arith, third, two))))
       (λ more. far_reads u x low less few (λ e. omega (arith, e, third, less, differ, more, low))) in
-      neither _ u (war_from t) (t - 1) (right_false _ _ (left_false _ _ unread)) (war_third t third) (λ e. differ (omega (arith, e)))))
+      neither _ u (war_from t) (t - 1) (and_right _ _ (and_left _ _ unread)) (war_third t third) (λ e. differ (omega (arith, e)))))
       (λ other. neither _ u (war_from t) 0 (first_by t
-      (λ first. right_false _ _ (left_false _ _ (far_reads u x low less few (λ e. omega (arith, e, first, less, low)))))
-      (λ later. left_false _ _ (writes_as t L false (omega arith) few (odd_writes t L (omega (arith, later, other))))))
+      (λ first. and_right _ _ (and_left _ _ (far_reads u x low less few (λ e. omega (arith, e, first, less, low)))))
+      (λ later. and_left _ _ (writes_as t L false (omega arith) few (odd_writes t L (omega (arith, later, other))))))
       (war_other t other) (λ e. omega (arith, e, low)))
 
   touched_at : (t : ℕ) → first_places (map (λ (x : Touch). x.location) (touches_at t)) ≡ static_of (group_of t) ∷ []

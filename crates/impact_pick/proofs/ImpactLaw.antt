@@ -2,6 +2,7 @@
 use Rattle.std.proofs.Common.{◌≡◌, ℕ, zero, suc, ◌+◌, ◌-◌, ◌<◌, ◌≤◌, List, [], ◌∷◌, length, get_or, slice_get, filter, Bool, true, false, ◌||◌, cond, nat_eq, refl, sym, ◌∙◌, ap, subst, inl, inr, arith, Option, Some, None, Result, Ok, All, IsSome}
 use Rattle.std.specs.{List.range_with_len, Str.bytes_eq}
 use Rattle.std.proofs.lemmas.{Bool.or_cases, Bool.or_right, Bool.eqb-true, Option.slice_get_within, Option.slice_get-get_or, Option.get_or_from_slice_get}
+use Rattle.std.proofs.lemmas.Bool.{not-false}
 use Rattle.et_base.proofs.Texts.{units_true}
 use Rattle.class_reader.specs.declared.parts.{ClassParts.ClassParts, CodePart.CodePart}
 use Rattle.class_reader.specs.ClassGrammar as grammar
@@ -19,7 +20,7 @@ use Rattle.order_law.specs.declared.records.{Prints.Prints, Record.Record, More.
 use Rattle.order_law.proofs.Members.{true_member}
 use Rattle.impact_pick.specs.{Carried.PairedEntry, Carried.IsCarried, Pick.is_changed, Pick.is_picked}
 use Rattle.impact_pick.specs.{Unpicked.is_kept, Unpicked.lines_of, Unpicked.KeptClasses, ImpactLaw.HasSums, ImpactLaw.SumsTell, ImpactLaw.ImpactLaw}
-use Rattle.impact_pick.proofs.{Unpicked.not_false, Unpicked.kept_law, Unpicked.unpicked_law, Resolved.supers_there, Resolved.pools_name, Resolved.code_there}
+use Rattle.impact_pick.proofs.{Unpicked.kept_law, Unpicked.unpicked_law, Resolved.supers_there, Resolved.pools_name, Resolved.code_there}
 use Rattle.impact_pick.proofs.{Names.AreKept, Records.n, Starts.skeletons_match, Starts.matched, Lines.line_test, Lines.tests_long, Lines.line_carried}
 
 -- ---- an answer's parts
@@ -123,7 +124,7 @@ module _ (cs ds : List ClassParts) (lines : TestLines) (p q : Program) (x y : Pr
   unchanged_is i c f h =
       let w = slice_get_within cs i c h in
       let same : m.classes ≡ x.classes = (is.more m e).classes in
-      let t : bytes_eq (get_or m.classes (suc i - 1) []) (get_or y.classes (suc i - 1) []) ≡ true = not_false (bytes_eq (get_or m.classes (suc i - 1) []) (get_or y.classes (suc i - 1) [])) f in
+      let t : bytes_eq (get_or m.classes (suc i - 1) []) (get_or y.classes (suc i - 1) []) ≡ true = not-false (bytes_eq (get_or m.classes (suc i - 1) []) (get_or y.classes (suc i - 1) [])) f in
       let z : suc i - 1 ≡ i = omega arith in
       let u : get_or x.classes i [] ≡ get_or y.classes i [] = ap (λ (l : List (List ℕ)). get_or l i []) (sym same) ∙ (ap (λ (k : ℕ). get_or m.classes k []) (sym z) ∙ (units_true _ _ t ∙ ap (λ (k : ℕ). get_or y.classes k []) z)) in
       let v = slice_get-get_or x.classes i [] (omega arith) in

@@ -2,7 +2,7 @@
 use Rattle.std.proofs.Common.{◌≡◌, ℕ, zero, suc, ◌+◌, ◌-◌, ◌<◌, ◌≤◌, get_or, slice_get, map, List, [], ◌∷◌, Bool, true, false, not, ◌&&◌, nat_le, refl, sym, ◌∙◌, ap, subst, inl, inr, arith, Option, Some}
 use Rattle.std.specs.Prelude.{option_map, IsSome, is_some, codes, decimal, ◌++◌}
 use Rattle.std.specs.List.{list_any, range_with_len}
-use Rattle.std.proofs.lemmas.Bool.{cases_Bool, cases_lt, and_parts, and_from, or_cases, or_parts, not-true, not_from_false, leb-true, le-leb}
+use Rattle.std.proofs.lemmas.Bool.{cases_Bool, cases_lt, and_parts, and_from, or_cases, or_parts, not-true, not_from_false, leb-true, le-leb, not-false}
 use Rattle.std.proofs.{lemmas.Map.Keys.any_passes_from_place, Math.ListN.get_or-map, lemmas.Option.slice_get-get_or}
 use Rattle.et_base.specs.Quotes.{name_of}
 use Rattle.jvm_model.specs.declared.{outcome.Cause.Cause, outcome.Outcome.Outcome, outcome.Verdict.Verdict, program.ClassRec.ClassRec, program.Program.Program}
@@ -34,10 +34,6 @@ finds f (x ∷ xs) e = elim (or_cases (f x) (list_any f xs) e) [
   | inl h ↦ record { place = 0; item = x; there = refl; passes = h }
   | inr h ↦ let r = finds f xs h in record { place = suc r.place; item = r.item; there = r.there; passes = r.passes }
 ]
-
-pub not_false : (b : Bool) → not b ≡ false → b ≡ true
-not_false true e = refl
-not_false false e = absurd (cc)
 
 none_member : (f : ℕ → Bool) (xs : List ℕ) (j : ℕ) → list_any f xs ≡ false → Member j xs → f j ≡ false
 none_member f [] j e i = absurd i
@@ -183,7 +179,7 @@ unpicked_law n p q x y r m tests t lp lq fs ts dp dq is e mt carried low unpicke
       | inl f ↦
           let o : is_open m q t ≡ false = closed_by (is_open m q t) (is_after_hit m y t) a.1 f in
           let b = or_parts (not (reach_at m t).settled) (puts_out_somewhere q) o in
-          inr (sym (settled_said p x y m more lp t low a.0) ∙ not_false (reach_at m t).settled b.0, b.1)
+          inr (sym (settled_said p x y m more lp t low a.0) ∙ not-false (reach_at m t).settled b.0, b.1)
     ]))
   where
     closed_by : (b c : Bool) → (b && c) ≡ false → c ≡ true → b ≡ false

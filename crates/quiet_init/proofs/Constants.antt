@@ -1,7 +1,7 @@
 -- A value of a field's type opens the field where there is no object.
 use Rattle.std.proofs.Common.{◌≡◌, ◌⊎◌, ℕ, zero, suc, ◌<◌, ◌≤◌, List, [], ◌∷◌, ◌++◌, length, get_or, drop, replicate, codes, Bool, true, false, not, ◌&&◌, ◌||◌, cond, nat_eq, nat_le, Option, Some, None, refl, sym, ◌∙◌, ap, subst, inl, inr, arith}
 use Rattle.std.specs.Str.{bytes_eq}
-use Rattle.std.proofs.lemmas.Bool.{and_parts, and_from, or_cases, or_left, or_right, eqb-true, eq-eqb, le-leb}
+use Rattle.std.proofs.lemmas.Bool.{and_parts, and_from, or_cases, or_left, or_right, eqb-true, eq-eqb, le-leb, not-true}
 use Rattle.std.proofs.{lemmas.List.Folds.list_any_at, lemmas.List.Quantifiers.position-Some, lemmas.Iterator.Adapters.position_from-zero}
 use Rattle.et_base.specs.Names.{is_field_descriptor}
 use Rattle.et_base.proofs.Texts.{units_true, units_same}
@@ -95,14 +95,10 @@ module _ (p : Program) (lk : Linked p) where
   unfolding object_fits
   no_array_fits a b e = ap (λ (x : Bool). elim x as (λ z. Bool) [ true ↦ elim (is_array b) as (λ z. Bool) [ true ↦ element_fits p (drop 1 a) (drop 1 b) | false ↦ takes_any p b ] | false ↦ not (is_array b) && class_fits p a b ]) e
 
-  not_true : (b : Bool) → not b ≡ true → b ≡ false
-  not_true true e = absurd (cc)
-  not_true false e = refl
-
   instance_fits : (k : ℕ) (a : List ℕ) → IsClass p k → IsInstance p (kind.Class k) a → (is_array a ≡ false) × (class_fits p (name_of p k) a ≡ true)
   instance_fits k a h i =
       let r = and_parts (not (is_array a)) (class_fits p (name_of p k) a) (sym (no_array_fits (name_of p k) a (plain_name p lk k h)) ∙ i) in
-      (not_true (is_array a) r.0, r.1)
+      (not-true (is_array a) r.0, r.1)
 
   -- ---- what takes a reference
 

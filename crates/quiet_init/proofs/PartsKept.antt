@@ -1,5 +1,6 @@
 -- The parts of a class without quiet initialisers: those that were, the hushed ones left out.
 use Rattle.std.proofs.Common.{◌≡◌, ℕ, List, [], ◌∷◌, ◌++◌, map, filter, Bool, true, false, not, cond, Option, refl, sym, ◌∙◌, ap}
+use Rattle.std.proofs.lemmas.Bool.{not-false}
 use Rattle.jvm_model.specs.{declared.program.Program.Program, Classes.class_at, Classes.is_interface, Classes.is_trivial, Classes.default_interfaces}
 use Rattle.jvm_model.specs.Initialise.{Part, superclass_part, parts_of}
 use Rattle.quiet_init.specs.Quiet.{quiet}
@@ -20,11 +21,7 @@ filter_twice {A = A} f g (x ∷ xs) h = by (g x) refl (filter_twice f g xs h)
 module _ (p : Program) where
   -- what is left out before is left out now
   apart : (c : ℕ) → not (is_trivial p c) ≡ false → not (is_trivial (quiet p) c) ≡ false
-  apart c e = ap not (trivial_kept p c (yes (is_trivial p c) e))
-    where
-      yes : (b : Bool) → not b ≡ false → b ≡ true
-      yes true e = refl
-      yes false e = absurd (cc)
+  apart c e = ap not (trivial_kept p c (not-false (is_trivial p c) e))
 
   abbrev started : Program → List Part → List Part
   started q xs = filter (λ x. not (is_trivial q x.class)) xs

@@ -3,7 +3,7 @@
 use Rattle.std.proofs.Common.{◌≡◌, ◌⊎◌, ℕ, zero, suc, ◌<◌, ◌≤◌, List, [], ◌∷◌, ◌++◌, length, filter, All, Bool, true, false, not, ◌&&◌, nat_lt, nat_eq, cond, Option, Some, None, IfSome, refl, sym, ◌∙◌, ap, subst, inl, inr, arith}
 use Rattle.std.specs.Prelude.{flat_map}
 use Rattle.std.specs.List.{list_all, list_any}
-use Rattle.std.proofs.lemmas.{Bool.and_parts, Bool.cases_lt, Bool.ltb-true, List.get_or_past}
+use Rattle.std.proofs.lemmas.{Bool.and_parts, Bool.cases_lt, Bool.ltb-true, List.get_or_past, Bool.not-true}
 use Rattle.jvm_model.specs.declared.program.{Body.Body, ClassRec.ClassRec, Program.Program}
 use Rattle.jvm_model.specs.{Builtin.builtin_count, Library.builtin_defs, Library.builtin_classes, Entries.entries_of, Entries.frame_of}
 use Rattle.jvm_model.specs.Classes.{no_class, class_at, method_at, is_interface, is_default_method, default_interfaces, own_interfaces, first_mentions, lineage_in, class_bound}
@@ -65,11 +65,7 @@ module _ (p : Program) (lk : Linked p) where
   plain_at c h = ap is_plain (builtin_class p lk.builtins c h) ∙ all_at is_plain builtin_classes c no_class plain_builtins (let l = lengths.0 in omega arith)
 
   not_interface : (c : ℕ) → c < builtin_count → is_interface (class_at p c).flags ≡ false
-  not_interface c h = by (is_interface (class_at p c).flags) (and_parts (not (is_interface (class_at p c).flags)) _ (plain_at c h)).0
-    where
-      by : (b : Bool) → not b ≡ true → b ≡ false
-      by true e = absurd (cc)
-      by false e = refl
+  not_interface c h = not-true (is_interface (class_at p c).flags) (and_parts (not (is_interface (class_at p c).flags)) _ (plain_at c h)).0
 
   above : (c d : ℕ) → (class_at p c).superclass ≡ Some d → is_interface (class_at p d).flags ≡ false
   above c d s = elim (cases_lt c builtin_count) [

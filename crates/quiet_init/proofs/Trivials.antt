@@ -2,7 +2,7 @@
 -- hushed ones left out.
 use Rattle.std.proofs.Common.{◌≡◌, ℕ, zero, suc, ◌≤◌, List, [], ◌∷◌, length, Bool, true, false, not, ◌&&◌, ◌||◌, cond, Option, Some, None, refl, sym, ◌∙◌, ap, subst, inl, inr, arith}
 use Rattle.std.specs.List.{list_all}
-use Rattle.std.proofs.lemmas.Bool.{and_parts, and_from, or_cases, cases_Bool}
+use Rattle.std.proofs.lemmas.Bool.{and_parts, and_from, or_cases, cases_Bool, not-true}
 use Rattle.jvm_model.specs.declared.program.Program.{Program}
 use Rattle.jvm_model.specs.Classes.{class_at, is_interface, is_trivial, default_interfaces, upwards, class_bound, declares_start}
 use Rattle.jvm_model.proofs.Upwards.{upwards_step, upwards_root}
@@ -14,10 +14,6 @@ all_from : (f g : ℕ → Bool) (xs : List ℕ) → ((x : ℕ) → Listed x xs �
 all_from f g [] h e = refl
 all_from f g (x ∷ xs) h e = let r = and_parts (f x) (list_all f xs) e in and_from (g x) (list_all g xs) (h x (inl refl) r.0) (all_from f g xs (λ y i. h y (inr i)) r.1)
 
-not_true : (b : Bool) → not b ≡ true → b ≡ false
-not_true true e = absurd (cc)
-not_true false e = refl
-
 other : (b d : Bool) → b ≡ false → (b || d) ≡ true → d ≡ true
 other true d n e = absurd (cc)
 other false d n e = e
@@ -28,7 +24,7 @@ goes_still p d = is_trivial p d || (is_still_start p d && list_all (λ i. is_tri
 
 module _ (p : Program) where
   none_kept : (c : ℕ) → not (declares_start p c) ≡ true → not (declares_start (quiet p) c) ≡ true
-  none_kept c e = none_started p c (inl (not_true (declares_start p c) e))
+  none_kept c e = none_started p c (inl (not-true (declares_start p c) e))
 
   starts_none_kept : (d : ℕ) → starts_none p d ≡ true → starts_none (quiet p) d ≡ true
   starts_none_kept d e = let r = and_parts (not (declares_start p d)) _ e in
