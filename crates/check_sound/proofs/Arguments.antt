@@ -11,7 +11,7 @@ use Rattle.type_frames.specs.declared.stack_effect.OperandConstraint.TheVariants
 use Rattle.type_frames.specs.{Frames.spread, Frames.padded, Descriptors.types_of, Descriptors.class_name, Given.entry_types, Given.given_frames}
 use Rattle.type_frames.specs.{Environment.Environment, Environment.environment_of, StackEffect.needs_of, Rules.opening, Rules.meet_all, Typing.IsTyped}
 use Rattle.type_frames.specs.TypedState.{IsInRange, HaveTypes, Goes}
-use Rattle.check_sound.proofs.{Grow.Ranged, Arrive.typed_method, Arrive.arrived_first, Ready.HasPlain, Ready.Takes}
+use Rattle.check_sound.proofs.{Grow.Ranged, Arrive.typed_method, Arrive.arrived_first, Ready.HasPlain, Ready.Takes, MoveRows.as_many}
 use Rattle.check_sound.proofs.{Held.Is, Held.Locals, Held.is_fits, Held.nothing_held, ReturnRows.plain_int, ReturnRows.plain_long}
 use Rattle.check_sound.proofs.Operands.{Operands, IsPop, popped, long_popped, none_there}
 use Rattle.check_sound.proofs.ParameterTexts.{IsText, AreTexts, parameters_formed}
@@ -185,12 +185,6 @@ nulls_range p w zero [] h = tt
 nulls_range p w (suc n) [] h = (tt, nulls_range p w n [] tt)
 nulls_range p w n (v ∷ vs) h = (h.0, nulls_range p w n vs h.1)
 
-same_length : (p : Program) (w : World) (e : Environment) (ts : List VType) (vs : List Value) → HaveTypes p w e ts vs → length ts ≡ length vs
-same_length p w e [] [] h = refl
-same_length p w e (t ∷ ts) (v ∷ vs) h = ap suc (same_length p w e ts vs h.1)
-same_length p w e [] (v ∷ vs) h = absurd h
-same_length p w e (t ∷ ts) [] h = absurd h
-
 more_tops : (p : Program) (w : World) (e : Environment) (n : ℕ) (ts : List VType) (vs : List Value) → HaveTypes p w e ts vs → HaveTypes p w e (ts ++ replicate n Top) (vs ++ replicate n value.Null)
 more_tops p w e zero [] [] h = tt
 more_tops p w e (suc n) [] [] h = (tt, more_tops p w e n [] [] tt)
@@ -199,7 +193,7 @@ more_tops p w e n [] (v ∷ vs) h = absurd h
 more_tops p w e n (t ∷ ts) [] h = absurd h
 
 filled_types : (p : Program) (w : World) (e : Environment) (n : ℕ) (ts : List VType) (vs : List Value) → HaveTypes p w e ts vs → HaveTypes p w e (padded n ts) (filled n vs)
-filled_types p w e n ts vs h = subst (λ (k : ℕ). HaveTypes p w e (padded n ts) (vs ++ replicate (n - k) value.Null)) (same_length p w e ts vs h) (more_tops p w e (n - length ts) ts vs h)
+filled_types p w e n ts vs h = subst (λ (k : ℕ). HaveTypes p w e (padded n ts) (vs ++ replicate (n - k) value.Null)) (as_many p w e ts vs h) (more_tops p w e (n - length ts) ts vs h)
 
 -- the types, slot by slot, of what a method is entered with
 abbrev pub EntersWith : Program → World → ℕ → List Value → Type 0

@@ -26,7 +26,7 @@ use Rattle.check_sound.proofs.Tree.{head_at, typed_done, typed_read, typed_write
 use Rattle.check_sound.proofs.Held.{Is, Held, int_on, is_fits, refers_fits}
 use Rattle.check_sound.proofs.Operands.{Operands, IsPop, rest_of, popping-seen, popping-typed, popping-fits, popping-long, on_int-typed, on_object-typed, head-typed, choose-typed}
 use Rattle.check_sound.proofs.Ready.{Ends, Row, Ready, here, rest, operands, on}
-use Rattle.check_sound.proofs.{Ends.fault_typed, CallEffects.Result, CallEffects.push, DeclaredValues.declared_result, CastRows.constant_is_kind}
+use Rattle.check_sound.proofs.{Ends.fault_typed, CallEffects.Result, CallEffects.push, DeclaredValues.declared_result, LibraryTypes.constant_is_kind}
 use Rattle.check_sound.proofs.{Thrown.null_pointer_thrown, Thrown.array_index_thrown, Thrown.array_store_thrown, KindNames.kind_instance}
 use Rattle.jvm_model.proofs.NarrowedFits.{narrowed_fits, smalls}
 use Rattle.check_sound.proofs.ArrayKinds.{Plain, Refs, array_below, array_kind, plain_cells, ref_cells}

@@ -62,7 +62,7 @@ bodiless : list_all (λ m. is_none m.body) builtin_methods ≡ true
 unfolding builtin_methods builtin_defs
 bodiless = refl
 
-own_methods : list_all (λ c. list_all (λ x. nat_lt x 102) c.methods) builtin_classes ≡ true
+pub own_methods : list_all (λ c. list_all (λ x. nat_lt x 102) c.methods) builtin_classes ≡ true
 unfolding builtin_classes builtin_defs
 own_methods = refl
 

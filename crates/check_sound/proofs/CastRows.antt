@@ -1,16 +1,13 @@
 -- The rows of checkcast and instanceof, and athrow's.
-use Rattle.std.proofs.Common.{◌≡◌, ℕ, List, [], ◌∷◌, Bool, true, false, not, cond, nat_eq, refl, sym, subst, arith}
+use Rattle.std.proofs.Common.{◌≡◌, ℕ, List, [], ◌∷◌, true, refl, sym, subst, arith}
 use Rattle.jvm_model.specs.declared.{values.Value.Value, values.Kind.Kind, instr.Instr.Instr, program.Program.Program, outcome.Next.TheVariants.Raise}
 use Rattle.jvm_model.specs.declared.values.Value.TheVariants as value
 use Rattle.jvm_model.specs.declared.values.Kind.TheVariants as kind
 use Rattle.jvm_model.specs.declared.instr.Instr.TheVariants as form
-use Rattle.jvm_model.specs.{World.World, Library.builtin_defs, Library.builtin_classes, Entries.Entries, Kinds.kind_fits, Kinds.class_of}
-use Rattle.jvm_model.specs.Builtin.{object_class, throwable_class, string_class, stream_class, class_cast_exception, null_pointer_exception}
-use Rattle.jvm_model.specs.{Classes.is_below, Classes.is_interface, Classes.member, Rows.constant_kind, Rows.answer, Rows.on_object}
-use Rattle.jvm_model.proofs.BuiltinRules.{class_keeps}
-use Rattle.type_frames.proofs.AssignLaws.{builtin_plain}
-use Rattle.check_sound.proofs.{Instances.takes_every, Instances.instance_below, Tree.typed_done, Tree.typed_known, Ends.fault_typed, KindNames.kind_instance}
-use Rattle.std.proofs.lemmas.Bool.{not-true}
+use Rattle.jvm_model.specs.{World.World, Entries.Entries, Kinds.kind_fits, Kinds.class_of}
+use Rattle.jvm_model.specs.Builtin.{object_class, throwable_class, class_cast_exception, null_pointer_exception}
+use Rattle.jvm_model.specs.{Classes.is_below, Rows.constant_kind, Rows.answer, Rows.on_object}
+use Rattle.check_sound.proofs.{Instances.instance_below, Tree.typed_done, Tree.typed_known, Ends.fault_typed, KindNames.kind_instance}
 use Rattle.jvm_model.specs.{Linked.Linked, Linked.IsKind, Access.done}
 use Rattle.jvm_model.specs.{RowsCasts.cast_to, RowsCasts.cast, RowsCasts.tested, RowsCasts.row_casts, Step.group_of, Step.casts, Step.row_throw}
 use Rattle.type_frames.specs.{declared.vtype.VType.TheVariants.Object, Descriptors.name_of, Descriptors.kind_name, StackEffect.sides, Typing.IsTyped}
@@ -18,41 +15,14 @@ use Rattle.type_frames.specs.TypedState.{kind_at, IsInstance, RefersTo}
 use Rattle.check_sound.proofs.Held.{Is, Held, on_top, int_on}
 use Rattle.check_sound.proofs.Operands.{rest_of, popping-fits, head-typed, choose-typed}
 use Rattle.check_sound.proofs.Ready.{Ends, Row, Ready, here, rest, operands, on, raised_typed}
-use Rattle.check_sound.proofs.{Thrown.under_object, Thrown.builtin_is, Thrown.class_cast_thrown, Thrown.null_pointer_thrown, Ready.names_form}
-
--- what a constant object is an instance of is a class of the program
-pub constant_is_kind : (p : Program) (lk : Linked p) (n : ℕ) → IsKind p (constant_kind n)
-constant_is_kind p lk n = by (nat_eq n 0)
-  where
-    by : (b : Bool) → IsKind p (kind.Class (cond b stream_class string_class))
-    by true = builtin_is p lk stream_class (omega arith)
-    by false = builtin_is p lk string_class (omega arith)
+use Rattle.check_sound.proofs.{Thrown.builtin_is, Thrown.class_cast_thrown, Thrown.null_pointer_thrown, Ready.names_form}
+use Rattle.check_sound.proofs.LibraryTypes.{constant_is_kind, throwable_plain, no_throwable}
 
 module _ (p : Program) (lk : Linked p) where
-  -- Throwable is no interface, and neither Strings nor the stream are throwables
-  not_every : takes_every p throwable_class ≡ false
-  unfolding builtin_classes builtin_defs
-  not_every = not-true _ (class_keeps p lk.builtins (λ x. not (is_interface x.flags)) (builtin_plain p lk) throwable_class (omega arith))
-
   throwable_below : (x : Kind) → IsKind p x → IsInstance p x (name_of p throwable_class) → is_below p (class_of x) throwable_class ≡ true
   throwable_below x h i =
-      let b = instance_below p lk x throwable_class h (builtin_is p lk throwable_class (omega arith)) not_every i in
+      let b = instance_below p lk x throwable_class h (builtin_is p lk throwable_class (omega arith)) (throwable_plain p lk) i in
       subst (λ (k : Kind). is_below p (class_of k) throwable_class ≡ true) (sym b.is) b.below
-
-  string_apart : is_below p string_class throwable_class ≡ true → ⊥
-  unfolding is_below builtin_classes builtin_defs
-  string_apart e = let q : member throwable_class (string_class ∷ object_class ∷ []) ≡ true = subst (λ (xs : List ℕ). member throwable_class xs ≡ true) (under_object p lk string_class (omega arith) refl) e in cc
-
-  stream_apart : is_below p stream_class throwable_class ≡ true → ⊥
-  unfolding is_below builtin_classes builtin_defs
-  stream_apart e = let q : member throwable_class (stream_class ∷ object_class ∷ []) ≡ true = subst (λ (xs : List ℕ). member throwable_class xs ≡ true) (under_object p lk stream_class (omega arith) refl) e in cc
-
-  no_constant : (n : ℕ) → IsInstance p (constant_kind n) (name_of p throwable_class) → ⊥
-  no_constant n i = by (nat_eq n 0) (throwable_below (constant_kind n) (constant_is_kind p lk n) i)
-    where
-      by : (b : Bool) → is_below p (class_of (kind.Class (cond b stream_class string_class))) throwable_class ≡ true → ⊥
-      by true e = stream_apart e
-      by false e = string_apart e
 
 module _ (p : Program) (ty : IsTyped p) {w : World} {s : Entries} where
   -- an object that the class or array takes goes on; another throws
@@ -97,7 +67,7 @@ module _ (p : Program) (ty : IsTyped p) {w : World} {s : Entries} where
   raises r (value.Int n) h = absurd h
   raises r (value.Long n) h = absurd h
   raises r value.Null h = typed_done (fault_typed p ty r null_pointer_exception s.top.stack (null_pointer_thrown p ty.linked) r.stack.range)
-  raises r (value.Lit n) h = absurd (no_constant p ty.linked n h.1)
+  raises r (value.Lit n) h = absurd (no_throwable p ty.linked n h.1)
   raises r (value.Obj o) h = typed_known o h.0 (λ k. typed_done ((h.0, throwable_below p ty.linked (kind_at w o) k h.1), raised_typed p ty r (value.Obj o) s.top.stack r.stack.range))
 
   pub throw-typed : Ready p w s form.Throw → Row p w (row_throw s)

@@ -21,7 +21,7 @@ use Rattle.type_frames.specs.declared.vtype.VType.{VType, TheVariants.Int, TheVa
 use Rattle.type_frames.specs.{Frames.same, Assign.assignable, Descriptors.types_of, Descriptors.name_of, Descriptors.kind_name}
 use Rattle.type_frames.specs.TypedState.{kind_at, IsInstance, RefersTo, IsDeclared}
 use Rattle.type_frames.proofs.AssignLaws.{assignable_trans}
-use Rattle.check_sound.proofs.{Tree.IsSpot, Held.same_is, Arrive.counted_at, Arrive.all_at_index, Ready.Takes, Ready.operand_types}
+use Rattle.check_sound.proofs.{Tree.IsSpot, Held.same_is, Arrive.counted_at, Arrive.all_at_index, Ready.Takes, Ready.operand_types, Arrive.own_methods}
 use Rattle.check_sound.proofs.Instances.{takes_every, instance_below, instance_itself, below_is}
 use Rattle.check_sound.proofs.Thrown.{under_object, builtin_is, above}
 
@@ -193,10 +193,6 @@ all_as_said : list_all (λ m. if_native m.native m) builtin_methods ≡ true
 unfolding builtin_methods builtin_classes builtin_defs parameters return_type
 all_as_said = refl
 
-own_methods : list_all (λ c. list_all (λ m. nat_lt m 102) c.methods) builtin_classes ≡ true
-unfolding builtin_classes builtin_defs
-own_methods = refl
-
 module _ (p : Program) (lk : Linked p) where
   beyond : (ms : List MethodRec) (m : ℕ) → length ms ≤ m → get_or ms m no_method ≡ no_method
   beyond [] m h = refl
@@ -319,8 +315,9 @@ module _ (p : Program) (lk : Linked p) where
   plain_class : (c : ℕ) → c < 32 → is_interface (get_or builtin_classes c no_class).flags ≡ false → nat_eq c object_class ≡ false → takes_every p c ≡ false
   plain_class c h f n = rw (n, ap (λ (r : ClassRec). is_interface r.flags) (builtin_class p lk.builtins c h), f) refl
 
-  constant_is : (n : ℕ) → IsKind p (constant_kind n)
-  constant_is n = by (nat_eq n 0)
+  -- what a constant object is an instance of is a class of the program
+  pub constant_is_kind : (n : ℕ) → IsKind p (constant_kind n)
+  constant_is_kind n = by (nat_eq n 0)
     where
       by : (b : Bool) → IsKind p (kind.Class (cond b stream_class string_class))
       by true = builtin_is p lk 4 (omega arith)
@@ -330,7 +327,7 @@ module _ (p : Program) (lk : Linked p) where
   no_constant : (c : ℕ) → IsClass p c → takes_every p c ≡ false → nat_eq c 4 ≡ false → nat_eq c 1 ≡ false → nat_eq c 0 ≡ false → (n : ℕ) → IsInstance p (constant_kind n) (name_of p c) → ⊥
   unfolding is_below builtin_classes builtin_defs
   no_constant c h t f s o n i =
-      let b = instance_below p lk (constant_kind n) c (constant_is n) h t i in
+      let b = instance_below p lk (constant_kind n) c (constant_is_kind n) h t i in
       by (nat_eq n 0) b.class b.is b.below
     where
       same_class : {a b : ℕ} → kind.Class a ≡ kind.Class b → a ≡ b
@@ -348,7 +345,8 @@ module _ (p : Program) (lk : Linked p) where
   unfolding builtin_classes builtin_defs
   no_builder n i = no_constant 2 (builtin_is p lk 2 (omega arith)) (plain_class 2 (omega arith) refl refl) refl refl refl n i
 
-  throwable_plain : takes_every p throwable_class ≡ false
+  -- Throwable is no interface, and neither Strings nor the stream are throwables
+  pub throwable_plain : takes_every p throwable_class ≡ false
   unfolding builtin_classes builtin_defs
   throwable_plain = plain_class 7 (omega arith) refl refl
 

@@ -96,7 +96,7 @@ ref_nullable p w e Long (value.Long n) m h = absurd (cc)
 not_zero : (n : ℕ) → 0 < n → nat_eq n 0 ≡ false
 not_zero n h = elim (cases_Bool (nat_eq n 0)) [ inl q ↦ absurd (let z = eqb-true n 0 q in omega arith) | inr q ↦ q ]
 
-as_many : (p : Program) (w : World) (e : Environment) (ts : List VType) (vs : List Value) → HaveTypes p w e ts vs → length ts ≡ length vs
+pub as_many : (p : Program) (w : World) (e : Environment) (ts : List VType) (vs : List Value) → HaveTypes p w e ts vs → length ts ≡ length vs
 as_many p w e [] [] h = refl
 as_many p w e (t ∷ ts) (v ∷ vs) h = ap suc (as_many p w e ts vs h.1)
 as_many p w e [] (v ∷ vs) h = absurd h

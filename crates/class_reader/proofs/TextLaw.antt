@@ -7,6 +7,7 @@ use Rattle.std.specs.BTreeSet.{BTreeSet, contains, Updates, IsEmpty}
 use denote.Ref.{Bor}
 use Rattle.std.proofs.lemmas.{Bool.eqb-true, List.take_more, List.length-take, List.map_more}
 use Rattle.std.proofs.{lemmas.Bool.Decides.nat_tests, lemmas.Bool.Decides.same_from_decides, lemmas.Slice.Eq.bytes_eq-Decides}
+use Rattle.et_base.proofs.Texts.{units_refl}
 use Rattle.class_pool.specs.{declared.pool.Entry.Entry, declared.pool.Entry.TheVariants.Utf8, Pool.entry_of, Pool.is_text}
 use Rattle.class_reader.specs.declared.{parts.MemberPart.MemberPart, texts.Mark.Mark}
 use Rattle.class_reader.specs.{Names.is_text_of, Names.same_text, Names.is_repeated, Lookups.noted, Lookups.noted_first}
@@ -72,9 +73,6 @@ first_is i (a ∷ slots) q k e =
           record { from = omega arith; below = omega (arith, r.below); there = ap (λ m. is_text_of q (get_or (a ∷ slots) m None)) m ∙ r.there }
     ] refl e
 
-bytes_same : (us : List ℕ) → bytes_eq us us ≡ true
-bytes_same us = (bytes_eq-Decides us us).1 refl
-
 -- two texts at one slot are equal
 same_there : (slot : Option Entry) (us vs : List ℕ) → is_text_of us slot ≡ true → is_text_of vs slot ≡ true → us ≡ vs
 same_there (Some (Utf8 ws)) us vs h g = sym ((bytes_eq-Decides ws us).0 h) ∙ (bytes_eq-Decides ws vs).0 g
@@ -95,7 +93,7 @@ named_at : (slots : List (Option Entry)) (n : ℕ) → is_text (entry_of slots n
 named_at slots zero h = absurd cc
 named_at slots (suc i) h =
     let t = text_is (get_or slots i None) h in
-    let f = first_there 0 slots i t.0 (ap (is_text_of t.0) t.1 ∙ bytes_same t.0) in
+    let f = first_there 0 slots i t.0 (ap (is_text_of t.0) t.1 ∙ units_refl t.0) in
     record { text = t.0; first = f.0; entry = t.1; is = f.1 }
 
 first_number : (slots : List (Option Entry)) (n : ℕ) (a : Named slots n) → unwrap_or (first_of slots (entry_of slots n)) 0 ≡ a.first
@@ -173,7 +171,7 @@ first_noted : (slots : List (Option Entry)) (i : ℕ) (slot : Option Entry) (tex
     → noted_first texts slot i ≡ first_of slots slot
 first_noted slots i (Some (Utf8 us)) texts lt e noted =
     let n : 0 + i ≡ i = omega arith in
-    ap (λ o. option_or o (Some i)) (noted us) ∙ sym (first_up_to 0 slots i (Some (Utf8 us)) us lt (ap (is_text_of us) (sym e) ∙ bytes_same us) ∙ ap (λ m. option_or (first_from 0 (take i slots) us) (Some m)) n)
+    ap (λ o. option_or o (Some i)) (noted us) ∙ sym (first_up_to 0 slots i (Some (Utf8 us)) us lt (ap (is_text_of us) (sym e) ∙ units_refl us) ∙ ap (λ m. option_or (first_from 0 (take i slots) us) (Some m)) n)
 first_noted slots i _ texts lt e noted = refl
 
 -- the mark of one slot more

@@ -155,7 +155,7 @@ others_case P t o high c = let n = o.opcode in
     cond_both (eqb n 200) _ _ P (λ h. c.goto (inr (eqb-true n 200 h))) (λ h6.
     type_of P t o (c.type (record { high = high; typed = rw (h1, h2, h3, h4, h5, h6) refl })) (c.plain form.Nop refl)))))))
 
-above : (n m : ℕ) → leb n m ≡ false → suc m ≤ n
+pub above : (n m : ℕ) → leb n m ≡ false → suc m ≤ n
 above n m h = omega (arith, leb-false n m h)
 
 -- what holds of each of these forms holds of the instruction's

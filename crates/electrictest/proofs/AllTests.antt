@@ -1,7 +1,7 @@
 -- A selection of all tests is closed.
 use Rattle.std.proofs.Common.{◌≡◌, ℕ, zero, suc, ◌+◌, ◌<◌, ◌≤◌, List, [], ◌∷◌, length, refl, sym, subst, arith, inl, inr}
 use Rattle.std.specs.List.{range_with_len}
-use Rattle.std.proofs.lemmas.Bool.{cases_eq}
+use Rattle.order_law.proofs.OwnRecord.{in_range}
 use Rattle.jvm_model.specs.Suite.{all_tests}
 use Rattle.order_law.specs.{Conflicts.Member, Conflicts.selected, OwnRecord.edges_of, Plan.Ascending}
 use Rattle.suite_load.specs.declared.loaded.Loaded.{Loaded}
@@ -22,10 +22,6 @@ range_is (suc n) a (x ∷ l) asc within has =
     (λ y m. let low = asc.0 y m in let w = within y (inr m) in (omega (arith, low, first), omega (arith, w.1)))
     (λ y low high. elim (has y (omega (arith, low)) (omega (arith, high))) [ inl e ↦ absurd (omega (arith, low, e, first)) | inr m ↦ m ]) in
     λ i. first i ∷ rest i
-
-pub in_range : (n a x : ℕ) → a ≤ x → x < a + n → Member x (range_with_len a n)
-in_range zero a x low high = absurd (omega (arith, low, high))
-in_range (suc n) a x low high = elim (cases_eq x a) [ inl e ↦ inl e | inr ne ↦ inr (in_range n (a + 1) x (omega (arith, low, ne)) (omega (arith, high))) ]
 
 pub closed_all : (l : Loaded) (b : Beginning) → IsOfSuite l b → b.said.edges ≡ edges_of l.checked → b.tests ≡ all_tests l.checked → (set : List ℕ) (chains : List (List ℕ)) (many : ℕ) → IsChosen b set chains many →
     set ≡ all_tests l.checked

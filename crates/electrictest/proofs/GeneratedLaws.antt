@@ -10,7 +10,7 @@ use Rattle.jvm_model.specs.{Linked.Linked, Suite.all_tests, Suite.is_detected, S
 use Rattle.jvm_model.proofs.Detection.{no_fault_where_detected}
 use Rattle.order_law.specs.declared.{records.Record.Record, edges.Edge.Edge}
 use Rattle.order_law.specs.{Conflicts.Member, OwnRecord.edges_of, Plan.AreListedChainsOf, Reach.IsRecordOf, Reach.units_in as units_given}
-use Rattle.order_law.proofs.OwnRecord.{range_within}
+use Rattle.order_law.proofs.OwnRecord.{range_within, in_range}
 use Rattle.outside.specs.Depot.{Told, DepotView, FailedAt, OfHeld}
 use Rattle.dep_record.specs.RecordText.{said}
 use Rattle.run_core.specs.Run.{Run, history, IsLegal, IsComplete}
@@ -29,7 +29,7 @@ use Rattle.electrictest.specs.{Commands.ReportEnds, Commands.Reported, Loads.IsS
 use Rattle.electrictest.specs.Generated.{IsSummary, IsSummed, IsWholeRequest, Sums, conflict_line, own_tests, own_units, summary_by, summary_text, whole_suite, worker_line}
 use Rattle.electrictest.specs.PoolRuns.{AreOwn, IsChosen, IsOfSuite, LawOfOwnRuns, PoolRefused, outcomes}
 use Rattle.electrictest.specs.{Replies.Unreported, Running.RunRefused, Selections.IsTestOf, Tallies.IsTallyOf, TestNames.units_in, Words.Ask}
-use Rattle.electrictest.proofs.{AllTests.closed_all, AllTests.in_range, AskedFor.reports_as, PlanLaws.tests_have, PoolLaws.own_runs, PoolLaws.pool_ran}
+use Rattle.electrictest.proofs.{AllTests.closed_all, AskedFor.reports_as, PlanLaws.tests_have, PoolLaws.own_runs, PoolLaws.pool_ran}
 use Rattle.electrictest.proofs.GeneratedRuns.{all_pass, given_is, none_other, passed_many, passes, units_all}
 use Rattle.electrictest.proofs.PoolReplies.{is_of_suite}
 

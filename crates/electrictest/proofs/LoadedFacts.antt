@@ -1,5 +1,5 @@
 -- What a suite that is loaded is made of.
-use Rattle.std.proofs.Common.{◌≤◌, ◌≡◌, ℕ, zero, suc, ◌+◌, List, [], ◌∷◌, length, map, slice_get, nat_le, Bool, true, false, refl, sym, ap, ◌∙◌, subst, arith, Option, Some, None, unwrap_or, Result, Ok, Err, All, if◌then◌else◌}
+use Rattle.std.proofs.Common.{◌≤◌, ◌≡◌, ℕ, zero, suc, ◌+◌, List, [], ◌∷◌, length, map, slice_get, false, refl, sym, ap, ◌∙◌, subst, arith, Option, Some, None, Result, Ok, Err, All}
 use Rattle.std.proofs.lemmas.List.Elements.{All-cons}
 use Rattle.sha2.specs.Sha256.{sha256}
 use Rattle.jvm_model.specs.declared.program.Program.{Program}
@@ -15,6 +15,7 @@ use Rattle.suite_load.specs.declared.suite_text.SuiteRefusal.TheVariants as refu
 use Rattle.suite_load.specs.declared.load_fault.LoadFault.TheVariants as fault
 use Rattle.suite_load.specs.{declared.loaded.Loaded.Loaded, SuiteForm.suite_of}
 use Rattle.suite_load.proofs.GoodLines.{IsGood, good_suite}
+use Rattle.suite_load.proofs.SumLaws.{by_content}
 use Rattle.suite_load.specs.Loading.{◌>>=◌, within, file_of, file_limit, room_after, suite_answer, suite_in, class_answer, class_in, classes_in, read_in, bytes_of, sums_in, lines_of, names_in, typed_answer, loaded_of, checked_of, ReadGives, Loads}
 use Rattle.type_frames.specs.{declared.fault.CheckFault.CheckFault, Typing.check_fault, Typing.IsTyped}
 use Rattle.type_checker.proofs.Typed.{typed_none}
@@ -28,14 +29,6 @@ went_on (Ok x) f y e = (x, refl, e)
 went_on (Err d) f y e = absurd (cc)
 
 -- ---- files that were read
-
-short_bytes : (short : Bool) (bytes read : List ℕ) (f : LoadFault) → ◌≡◌ {A = Result (List ℕ) LoadFault} (if short then Ok bytes else Err f) (Ok read) → bytes ≡ read
-short_bytes true bytes read f e = cc
-short_bytes false bytes read f e = absurd (cc)
-
-there : (most : ℕ) (name read : List ℕ) (o : Option (List ℕ)) → within most name o ≡ Ok read → unwrap_or o [] ≡ read
-there most name read None e = absurd (cc)
-there most name read (Some bytes) e = short_bytes (nat_le (length bytes) most) bytes read (fault.TooLarge name) e
 
 -- these class files are those of the names
 abbrev pub AreRead : Files → List (List ℕ) → List ClassParts → Type 0
@@ -51,7 +44,7 @@ one_read files read name x e =
     let a = went_on (file_of files (room_after read) name) _ x e in
     let b = went_on (class_answer name (class_of a.0)) _ x a.2 in
     let same : b.0 ≡ x.0 = (let z : ◌≡◌ {A = Result (ClassParts × ℕ) LoadFault} (Ok (b.0, read + length a.0)) (Ok x) = b.2 in cc) in
-    ap class_of (there (room_after read) name a.0 (content files name) a.1) ∙ answered_ok name (class_of a.0) x.0 (subst (λ (c : ClassParts). class_answer name (class_of a.0) ≡ Ok c) same b.1)
+    ap class_of (by_content (room_after read) name a.0 (content files name) a.1) ∙ answered_ok name (class_of a.0) x.0 (subst (λ (c : ClassParts). class_answer name (class_of a.0) ≡ Ok c) same b.1)
 
 all_read : (files : Files) (read : ℕ) (names : List (List ℕ)) (cs : List ClassParts) → classes_in files read names ≡ Ok cs → AreRead files names cs
 unfolding classes_in

@@ -32,9 +32,6 @@ unequal xs ys differ = by (bytes_eq xs ys) refl
 pub decimals_differ : (m n : ℕ) → m < n → n ≤ 1025 → bytes_eq (decimal n) (decimal m) ≡ false
 decimals_differ m n less few = unequal (decimal n) (decimal m) (λ e. let same = decimal_injective n m (omega (arith, few)) (omega (arith, few)) e in absurd (omega (arith, same, less)))
 
-pub equal_to_itself : (xs : List ℕ) → bytes_eq xs xs ≡ true
-equal_to_itself xs = (bytes_eq-Decides xs xs).1 refl
-
 -- two names of the same letter
 pub names_differ : (letter m n : ℕ) → m < n → n ≤ 1025 → bytes_eq (letter ∷ decimal m) (letter ∷ decimal n) ≡ false
 names_differ letter m n less few = unequal (letter ∷ decimal m) (letter ∷ decimal n) (λ e.

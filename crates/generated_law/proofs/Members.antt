@@ -3,6 +3,7 @@ use Rattle.std.proofs.Common.{◌≡◌, ℕ, zero, suc, ◌+◌, ◌-◌, ◌<�
 use Rattle.std.specs.Prelude.{codes, find}
 use Rattle.std.specs.{List.range_with_len, Str.bytes_eq}
 use Rattle.std.proofs.{Math.Seq.get_or-append_seam, Math.Seq.take-append_seam, lemmas.List.FromFn.get_or-map-range_with_len, lemmas.List.get_or-append-add}
+use Rattle.et_base.proofs.Texts.{units_refl}
 use Rattle.jvm_model.specs.declared.program.{Program.Program, ClassRec.ClassRec, FieldRec.FieldRec, MethodRec.MethodRec, Body.Body, TestEntry.TestEntry}
 use Rattle.jvm_model.specs.Library.{builtin_defs, builtin_classes, builtin_fields, builtin_methods}
 use Rattle.jvm_model.specs.Classes.{no_class, no_field, no_method, class_at, field_at, method_at, class_bound, upwards, upwards_in}
@@ -11,7 +12,7 @@ use Rattle.jvm_model.specs.Lookup.{is_field, is_method, field_path, field_path_i
 use Rattle.jvm_model.proofs.BuiltinRules.{lengths, builtin_class}
 use Rattle.suite_gen.specs.Generated.{group_count}
 use Rattle.generated_law.specs.GeneratedSuite.{method_name, field_number, method_number, print_number, gen_class, gen_field, gen_method, gen_program}
-use Rattle.generated_law.proofs.Decimals.{names_differ, equal_to_itself}
+use Rattle.generated_law.proofs.Decimals.{names_differ}
 
 -- ---- entries by their numbers
 
@@ -102,7 +103,7 @@ field_found body k tests g few small =
     let q = is_field p name (codes "I") in
     let object = (class_at p 0).fields ++ [] in
     let before : (j : ℕ) → j < g → q (2 + j) ≡ false = λ j less. ap (λ x. same_field x name) (field_is body k tests j (omega (arith, less, few))) ∙ ap (λ b. b && bytes_eq (codes "I") (codes "I")) (names_differ 102 j g less (omega (arith, few, small))) in
-    let at : q (2 + g) ≡ true = ap (λ x. same_field x name) (field_is body k tests g few) ∙ ap (λ b. b && bytes_eq (codes "I") (codes "I")) (equal_to_itself name) in
+    let at : q (2 + g) ≡ true = ap (λ x. same_field x name) (field_is body k tests g few) ∙ ap (λ b. b && bytes_eq (codes "I") (codes "I")) (units_refl name) in
     ap (λ path. find q (flat_map (λ d. (class_at p d).fields) path)) (path_is body k tests)
     ∙ (ap (λ (c : ClassRec). find q (c.fields ++ object)) (class_is body k tests) ∙ find_first q 2 (group_count k) g object few before at)
 
@@ -121,7 +122,7 @@ method_found body k tests i low few small =
     let before : (j : ℕ) → j < i - 1 → q (102 + j) ≡ false = λ j less. ap q (number j)
     ∙ (ap (λ x. same_method x name) (method_is body k tests (j + 1) (omega arith) (omega (arith, less, few))) ∙ ap (λ b. b && bytes_eq (codes "()V") (codes "()V")) (names_differ 116 (j + 1) i (omega (arith, less)) (omega (arith, few, small)))) in
     let last : 102 + (i - 1) ≡ method_number i = omega (arith, low) in
-    let at : q (102 + (i - 1)) ≡ true = ap q last ∙ (ap (λ x. same_method x name) (method_is body k tests i low few) ∙ ap (λ b. b && bytes_eq (codes "()V") (codes "()V")) (equal_to_itself name)) in
+    let at : q (102 + (i - 1)) ≡ true = ap q last ∙ (ap (λ x. same_method x name) (method_is body k tests i low few) ∙ ap (λ b. b && bytes_eq (codes "()V") (codes "()V")) (units_refl name)) in
     ap (λ path. find q (flat_map (λ d. (class_at p d).methods) path)) (upwards_is body k tests)
     ∙ (ap (λ (c : ClassRec). find q (c.methods ++ object)) (class_is body k tests) ∙ (find_first q 102 k (i - 1) object (omega (arith, low, few)) before at ∙ ap Some last))
 

@@ -5,6 +5,7 @@ use Rattle.std.specs.List.{AllByRecursion, list_all, flat_map, range_with_len}
 use Rattle.std.proofs.lemmas.Bool.{lt-ltb, ltb-true, and_from, or_left, or_right}
 use Rattle.std.proofs.lemmas.{Bool.Decides.nat_tests, List.Elements.All-from_recursion, Fmt.length-decimal-le, List.get_or-append-add, List.length-append}
 use Rattle.std.proofs.lemmas.List.{FromFn.length-map-range_with_len, FromFn.get_or-map-range_with_len, Sums.AllPass-from_list_all}
+use Rattle.suite_gen.proofs.Spelled.{group_slots_count}
 use Rattle.et_base.specs.Utf.{utf, is_one, group, IsUnits}
 use Rattle.et_base.specs.Names.{is_plain, is_unqualified, is_method_name, is_class_name, is_class_entry_name, after_element, after_type, is_field_descriptor, is_method_descriptor, argument, arguments, argument_units}
 use Rattle.class_pool.specs.{declared.pool.Entry.Entry, PoolGrammar.EntryFits, PoolGrammar.Laid, PoolGrammar.IsPool}
@@ -55,10 +56,6 @@ in_groups later a (suc n) zero b e few at low =
 in_groups later a (suc n) (suc j) b e few at low =
     let index : 3 * suc j + e ≡ suc (suc (suc (3 * j + e))) = omega arith in
     ap (λ i. get_or (flat_map group_slots (range_with_len a (suc n)) ++ later) i None) index ∙ in_groups later (a + 1) n j b e (omega (arith, few)) (omega (arith, at)) low
-
-group_slots_count : (a n : ℕ) → length (flat_map group_slots (range_with_len a n)) ≡ 3 * n
-group_slots_count a zero = omega arith
-group_slots_count a (suc n) = let h = group_slots_count (a + 1) n in omega arith
 
 in_tests : (k i : ℕ) → 1 ≤ i → i ≤ k → get_or (flat_map group_slots (range_with_len 0 (group_count k)) ++ map test_slot (range_with_len 1 k)) (3 * group_count k + (i - 1)) None ≡ test_slot i
 in_tests k i low few =

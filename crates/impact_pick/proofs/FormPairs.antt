@@ -1,12 +1,12 @@
 -- The forms of one instruction by two targets: what holds of each pair of forms that have to be shown holds of its two forms.
-use Rattle.std.proofs.Common.{◌≡◌, ℕ, suc, ◌≤◌, pos, ◌-ℤ◌, Bool, true, false, eqb, leb, ◌&&◌, ◌||◌, Option, refl, arith, cond}
-use Rattle.std.proofs.lemmas.Bool.{leb-true, leb-false}
+use Rattle.std.proofs.Common.{◌≡◌, ℕ, ◌≤◌, pos, ◌-ℤ◌, Bool, true, false, eqb, leb, ◌&&◌, ◌||◌, Option, refl, cond}
+use Rattle.std.proofs.lemmas.Bool.{leb-true}
 use Rattle.code_decode.specs.declared.instructions.RawOp.{RawOp}
 use Rattle.jvm_model.specs.declared.{values.Value.TheVariants.Int, values.Value.TheVariants.Long, values.Value.TheVariants.Null, instr.Instr.Instr}
 use Rattle.jvm_model.specs.declared.instr.Instr.TheVariants as form
 use Rattle.code_forms.specs.{declared.references.Target.Target, Operands.operand, Operands.number_in}
 use Rattle.code_forms.specs.Forms.{constant_form, constants, loads, stores, moves, numbers, conversions, branches, members, number_array, types, others, form_of}
-use Rattle.code_forms.proofs.FormCases.{IsTyped, is_plain}
+use Rattle.code_forms.proofs.FormCases.{IsTyped, is_plain, above}
 
 -- one choice on both sides
 pub cond_two : {A B : Type 0} (b : Bool) (x y : A) (u v : B) (R : A → B → Type 0) → (b ≡ true → R x u) → (b ≡ false → R y v) → R (cond b x y) (cond b u v)
@@ -35,9 +35,6 @@ module _ (R : Instr → Instr → Type 0) (t u : Option Target) (o : RawOp) (c :
       cond_two (eqb o.opcode 16 || eqb o.opcode 17) _ _ _ _ R (λ _. c.alone (form.Const (Int (operand o 0))) refl) (λ _.
       cond_two (leb 18 o.opcode && leb o.opcode 20) _ _ _ _ R (λ _. c.constant) (λ _.
       c.alone form.Nop refl)))))
-
-  above : (a m : ℕ) → leb a m ≡ false → suc m ≤ a
-  above a m h = omega (arith, leb-false a m h)
 
   others_pair : 186 ≤ o.opcode → R (others t o) (others u o)
   unfolding others

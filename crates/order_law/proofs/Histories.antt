@@ -28,7 +28,7 @@ openings [] g f = tt
 openings (x ∷ xs) g zero = g 0
 openings (x ∷ xs) g (suc f) = openings xs (λ k. g (suc k)) f
 
-same_test : (t : TestEntry) → PairedTest same_numbers t t
+pub same_test : (t : TestEntry) → PairedTest same_numbers t t
 same_test t = record { class = eq-eqb t.class t.class refl; method = eq-eqb t.method t.method refl; clock = refl; seed = refl }
 
 module _ (p : Program) (linked : Linked p) where

@@ -71,7 +71,7 @@ unwritten (make x k) w L e = let q = append_unwritten (made (size w) x) (run (k 
     unwritten (k (size w)) (make_object w x) L q.1 ∙ made_leaves w x L q.0
 unwritten (spend n rest) w L e = unwritten rest w L e
 
-one_of : (w s a : Bool) → cond w (s || a) a ≡ true → (s ≡ true) ⊎ (a ≡ true)
+pub one_of : (w s a : Bool) → cond w (s || a) a ≡ true → (s ≡ true) ⊎ (a ≡ true)
 one_of true s a e = or_cases s a e
 one_of false s a e = inr e
 

@@ -87,7 +87,7 @@ gather_in f (y ∷ xs) k u t x i j = elim i [
   | inr m ↦ edge_right (f y) (flat_map f xs) k u t (gather_in f xs k u t x m j)
 ]
 
-in_range : (n a x : ℕ) → a ≤ x → x < a + n → Member x (range_with_len a n)
+pub in_range : (n a x : ℕ) → a ≤ x → x < a + n → Member x (range_with_len a n)
 in_range zero a x lo hi = absurd (omega arith)
 in_range (suc n) a x lo hi = elim (cases_eq x a) [ inl e ↦ inl e | inr ne ↦ inr (in_range n (a + 1) x (omega arith) (omega arith)) ]
 

@@ -18,7 +18,7 @@ use Rattle.jvm_model.specs.State.{State, Turn, next, raised_in, with_entries}
 use Rattle.jvm_model.proofs.{Binds.run_bind, Steps.step_finishes, Locations.at_put_same, Locations.at_put_other, Locations.same_false, Locations.at_make_new}
 use Rattle.quiet_init.specs.Quiet.{is_still, begun_world, left_by, left_by_start, quiet}
 use Rattle.quiet_init.specs.StillLaw.{Leads, there, one_more, HaveRows, HasOwn, OwnAlone}
-use Rattle.quiet_init.proofs.Still.{Twin, rows_alike}
+use Rattle.quiet_init.proofs.Still.{Twin, rows_alike, alone_itself}
 use Rattle.quiet_init.proofs.Started.{leads_then, IsStarted, AreStarted, Looked, passed, goes, quiet_ends}
 
 abbrev pub Among : Part → List Part → Type 0
@@ -271,9 +271,6 @@ module _ (p : Program) (c : ℕ) where
           record { steps = (1 + g.steps) + r.steps; world = r.world; leads = leads_then l r.leads ((1 + g.steps) + r.steps) refl; went = went_then p w g.world r.world g.went r.went; started = r.started }
 
 -- ---- the class itself
-
-alone_itself : (p : Program) (c : ℕ) (w : World) → OwnAlone p c w w
-alone_itself p c w = record { objects = refl; states = refl; files = refl; props = refl; statics = λ f n. refl }
 
 module _ (p : Program) (c : ℕ) (nt : is_trivial p c ≡ false) (h : Hushed p c) (s : State) (w : World) (wh : IsWhole s) (fr : Fresh p w) (idle : at w (place.Init c) ≡ Idle)
     (free : NoOverflow p (pushed c s) (put w (place.Init c) Running)) (pd : PartsDone p c (pushed c s) (put w (place.Init c) Running)) where

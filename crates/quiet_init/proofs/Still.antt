@@ -128,7 +128,7 @@ pub record Alongside (p : Program) (c : ℕ) (b : List Entry) (s : Entries) (w :
   pub twin : Twin p c q.world r.world
   pub alone : OwnAlone p c w r.world
 
-alone_itself : (p : Program) (c : ℕ) (w : World) → OwnAlone p c w w
+pub alone_itself : (p : Program) (c : ℕ) (w : World) → OwnAlone p c w w
 alone_itself p c w = record { objects = refl; states = refl; files = refl; props = refl; statics = λ f n. refl }
 
 alone_then : (p : Program) (c : ℕ) (u v w : World) → OwnAlone p c u v → OwnAlone p c v w → OwnAlone p c u w

@@ -1,6 +1,7 @@
 -- Where both runs do the same, and it touches nothing but what they have alike, they come out alike.
 use Rattle.std.proofs.Common.{◌≡◌, ◌⊎◌, ℕ, suc, ◌≤◌, List, [], ◌∷◌, Bool, true, false, not, ◌&&◌, ◌||◌, cond, All, sym, subst, inl, inr, arith}
 use Rattle.std.proofs.lemmas.Bool.{or_cases, and_parts}
+use Rattle.order_law.proofs.Leaves.{one_of}
 use Rattle.jvm_model.specs.{declared.values.Location.Location, declared.values.Touch.Touch, declared.program.Program.Program, World.World, World.same}
 use Rattle.jvm_model.specs.declared.values.Location.TheVariants as place
 use Rattle.jvm_model.specs.{Classes.field_at, Access.Access, Access.Ran, Access.run}
@@ -29,10 +30,6 @@ is_clear p w (place.File n) h = tt
 is_clear p w (place.Prop n) h = tt
 
 -- the location of the first touch, or of a later one
-written_at : (b s r : Bool) → cond b (s || r) r ≡ true → (s ≡ true) ⊎ (r ≡ true)
-written_at true s r e = or_cases s r e
-written_at false s r e = inr e
-
 exposed_at : (b s r : Bool) → cond b (not s && r) (s || r) ≡ true → (s ≡ true) ⊎ (r ≡ true)
 exposed_at true s r e = inr (and_parts (not s) r e).1
 exposed_at false s r e = or_cases s r e
@@ -44,7 +41,7 @@ among_touches : (P : Location → Type 0) (ts : List Touch) (L : Location) → A
 among_touches P [] L a (inl e) = absurd (cc)
 among_touches P [] L a (inr e) = absurd (cc)
 among_touches P (x ∷ ts) L a h = elim h [
-  | inl e ↦ elim (written_at x.write (same L x.location) (written ts L) e) [ inl q ↦ at_first P x L (a 0 x (omega arith)) q | inr q ↦ among_touches P ts L (λ k d l. a (suc k) d (omega arith)) (inl q) ]
+  | inl e ↦ elim (one_of x.write (same L x.location) (written ts L) e) [ inl q ↦ at_first P x L (a 0 x (omega arith)) q | inr q ↦ among_touches P ts L (λ k d l. a (suc k) d (omega arith)) (inl q) ]
   | inr e ↦ elim (exposed_at x.write (same L x.location) (exposed ts L) e) [ inl q ↦ at_first P x L (a 0 x (omega arith)) q | inr q ↦ among_touches P ts L (λ k d l. a (suc k) d (omega arith)) (inr q) ]
 ]
 

@@ -1,16 +1,16 @@
 -- All tests of a suite, one after the other in both runs: the law of quiet initialisers.
 use Rattle.std.proofs.Common.{◌≡◌, ℕ, zero, suc, ◌+◌, ◌-◌, ◌<◌, ◌≤◌, List, [], ◌∷◌, length, get_or, slice_get, true, Option, Some, None, refl, sym, ◌∙◌, ap, subst, arith}
 use Rattle.std.specs.List.{range_with_len}
-use Rattle.std.proofs.lemmas.Bool.{eq-eqb, leb-true, le-leb}
+use Rattle.std.proofs.lemmas.Bool.{leb-true, le-leb}
 use Rattle.jvm_model.specs.declared.{outcome.Outcome.Outcome, program.Program.Program, program.TestEntry.TestEntry}
 use Rattle.jvm_model.specs.{World.World, Access.Ran, Access.run, Linked.Linked}
 use Rattle.jvm_model.specs.{Reached.Reaches, Reached.begins, Reached.Overflows, State.State, State.no_test, State.started, State.test_at}
 use Rattle.jvm_model.specs.Suite.{End, opening, tree, Given, given_at, one_test, runs_on, runs, all_tests, outcome_in, given_by_test, seq, units_of, suite_limit, within_limit, is_detected, with_first}
 use Rattle.jvm_model.proofs.Runs.{runs_after, split}
-use Rattle.order_law.specs.{Conflicts.down, Histories.after_history, Matched.PairedTest, Numbers.same_numbers, Outcomes.PairedEnd}
+use Rattle.order_law.specs.{Conflicts.down, Histories.after_history, Numbers.same_numbers, Outcomes.PairedEnd}
 use Rattle.order_law.specs.Pairing.{PairedList, no_more, one_more, PairedOption, both_none, both_some}
 use Rattle.order_law.proofs.FrameLaw.{given_of, RanTo, ran_to, given_then, second_end}
-use Rattle.order_law.proofs.{Lists.get-list, Same.verdict_is, States.both_first, States.nothing-paired, Steps.States}
+use Rattle.order_law.proofs.{Lists.get-list, Same.verdict_is, States.both_first, States.nothing-paired, Steps.States, Histories.same_test}
 use Rattle.type_frames.specs.{Typing.IsTyped, TypedState.TypedWorld}
 use Rattle.check_sound.proofs.{AllGroups.groups, WholeTest.opening_typed, WholeTest.test_typed}
 use Rattle.quiet_init.specs.Quiet.{quiet}
@@ -23,12 +23,9 @@ pub tests_kept : (p : Program) → (quiet p).tests ≡ p.tests
 unfolding quiet
 tests_kept p = refl
 
-self_test : (t : TestEntry) → PairedTest same_numbers t t
-self_test t = record { class = eq-eqb t.class t.class refl; method = eq-eqb t.method t.method refl; clock = refl; seed = refl }
-
 started_alike : (p : Program) (lk : Linked p) (t : ℕ) → States (twins p lk) (started p t) (started (quiet p) t)
 unfolding quiet
-started_alike p lk t = record { test = self_test (test_at p t); entries = nothing-paired same_numbers (λ a b. a ≡ b); stage = both_first; raised = both_none; own = refl }
+started_alike p lk t = record { test = same_test (test_at p t); entries = nothing-paired same_numbers (λ a b. a ≡ b); stage = both_first; raised = both_none; own = refl }
 
 -- what a test gives without quiet initialisers, where its run comes out alike
 record GivenToo (p : Program) (b : ℕ) (q : Ran End) (x : Given) : Type 0 where

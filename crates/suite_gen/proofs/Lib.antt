@@ -1,4 +1,4 @@
 mod Ranges
 mod Names
-mod Spelled
+pub mod Spelled
 mod Parts

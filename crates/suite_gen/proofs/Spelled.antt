@@ -19,7 +19,7 @@ group_same g few = ap (λ (l : List ℕ). l ++ (bytes.twin 12 (14 + 3 * g) 6 ++ 
 test_same : (i : ℕ) → i ≤ 1024 → slot_bytes (test_slot i) ≡ bytes.name_bytes 116 i
 test_same i few = name_entry 116 i (omega arith) (omega arith) (omega (arith, few))
 
-group_slots_count : (a n : ℕ) → length (flat_map group_slots (range_with_len a n)) ≡ 3 * n
+pub group_slots_count : (a n : ℕ) → length (flat_map group_slots (range_with_len a n)) ≡ 3 * n
 group_slots_count a zero = omega arith
 group_slots_count a (suc n) = let h = group_slots_count (a + 1) n in omega arith
 

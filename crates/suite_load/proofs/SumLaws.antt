@@ -25,7 +25,7 @@ by_length : (b : Bool) (bytes read : List ℕ) (f : LoadFault) → ◌≡◌ {A 
 by_length true bytes read f e = cc
 by_length false bytes read f e = absurd (cc)
 
-by_content : (most : ℕ) (name read : List ℕ) (o : Option (List ℕ)) → within most name o ≡ Ok read → unwrap_or o [] ≡ read
+pub by_content : (most : ℕ) (name read : List ℕ) (o : Option (List ℕ)) → within most name o ≡ Ok read → unwrap_or o [] ≡ read
 by_content most name read None e = absurd (cc)
 by_content most name read (Some bytes) e = by_length (nat_le (length bytes) most) bytes read (fault.TooLarge name) e
 
