@@ -162,12 +162,9 @@ module _ (p : Program) (holds : HoldsBuiltins p) (kinds : (c : ℕ) → IsGiven 
         not-true _ (and_parts (not (is_interface (class_at p d).flags)) _ (class_keeps p holds plain_class plain_classes d w)).0
     | inr g ↦ elim (cases_lt c (length p.classes)) [
       | inl l ↦ subst (λ o. IfSome o (λ n. is_interface_at p n ≡ false)) e (kinds c (g, l)).superclass
-      | inr l ↦ absurd (let z : (class_at p c).superclass ≡ None = ap (λ (r : ClassRec). r.superclass) (nothing_at c l) in cc)
+      | inr l ↦ absurd (let z : (class_at p c).superclass ≡ None = ap (λ (r : ClassRec). r.superclass) (get_or_past p.classes c no_class l) in cc)
     ]
   ]
-    where
-      nothing_at : (c : ℕ) → length p.classes ≤ c → class_at p c ≡ no_class
-      nothing_at c l = get_or_past p.classes c no_class l
 
   abbrev Plain : ℕ → Type 0
   Plain d = is_interface_at p d ≡ false

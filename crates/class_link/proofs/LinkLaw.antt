@@ -117,24 +117,43 @@ coded_from cs known i k c x code h g e =
     let m : MethodFacts c.pool x = all_there (MethodFacts c.pool) c.methods k x (known i c h).methods.each g in
     subst (λ o. IfSome o (PartFacts c.pool)) e m.code
 
--- What linking answers is a linked program, where the first cycle is known at least if names differ and supertypes have no fault.
-linked_by : (cs : List ClassParts) (lines : TestLines) (cycle : Option ℕ) (p : Program) → length cs ≤ 1024 → All (λ c. grammar.IsClass c) cs → AreLines lines
-    → (duplicate_fault cs ≡ None → first_some (supertypes_fault (setting cs)) cs ≡ None → IsFirstCycle (skeleton cs) cycle) → link_by cycle cs lines ≡ Ok p → Linked p
+-- what linking finds on its way to a program
+pub record Parts (cs : List ClassParts) (lines : TestLines) (cycle : Option ℕ) (p : Program) : Type 0 where
+  pub different : duplicate_fault cs ≡ None
+  pub headed : first_some (supertypes_fault (setting cs)) cs ≡ None
+  pub acyclic : cycle_fault cs cycle ≡ None
+  pub resolved : all_references_fault (setting cs) builtin_count cs ≡ None
+  pub tests : List TestEntry
+  pub tests_are : tests_of (setting cs) lines.budget [] lines.tests ≡ Ok tests
+  pub is : program_of cs tests lines.files ≡ p
+
+pub parts_by : (cs : List ClassParts) (lines : TestLines) (cycle : Option ℕ) (p : Program) → link_by cycle cs lines ≡ Ok p → Parts cs lines cycle p
 unfolding link_by
-linked_by cs lines cycle p few classes are first e =
+parts_by cs lines cycle p e =
     let s = setting cs in
-    let known = known_from cs classes in
     let a = bound (unless (duplicate_fault cs)) _ p e in
     let b = bound (unless (first_some (supertypes_fault s) cs)) _ p a.2 in
     let c = bound (unless (cycle_fault cs cycle)) _ p b.2 in
     let d = bound (unless (all_references_fault s builtin_count cs)) _ p c.2 in
     let t = bound (tests_of s lines.budget [] lines.tests) (λ ts. Ok (program_of cs ts lines.files)) p d.2 in
-    let q : program_of cs t.0 lines.files ≡ p = (let z : ◌≡◌ {A = Result Program LinkFault} (Ok (program_of cs t.0 lines.files)) (Ok p) = t.2 in cc) in
-    let different = unless_none (duplicate_fault cs) a.0 a.1 in
-    let headed = unless_none (first_some (supertypes_fault s) cs) b.0 b.1 in
-    let acyclic = no_cycle cs cycle (first different headed) (unless_none (cycle_fault cs cycle) c.0 c.1) in
-    let resolved = unless_none (all_references_fault s builtin_count cs) d.0 d.1 in
-    subst Linked q (program_linked cs t.0 lines.files known (coded_from cs known) different headed acyclic resolved lines are few t.1 refl)
+    record {
+      different = unless_none (duplicate_fault cs) a.0 a.1;
+      headed = unless_none (first_some (supertypes_fault s) cs) b.0 b.1;
+      acyclic = unless_none (cycle_fault cs cycle) c.0 c.1;
+      resolved = unless_none (all_references_fault s builtin_count cs) d.0 d.1;
+      tests = t.0;
+      tests_are = t.1;
+      is = (let z : ◌≡◌ {A = Result Program LinkFault} (Ok (program_of cs t.0 lines.files)) (Ok p) = t.2 in cc);
+    }
+
+-- What linking answers is a linked program, where the first cycle is known at least if names differ and supertypes have no fault.
+linked_by : (cs : List ClassParts) (lines : TestLines) (cycle : Option ℕ) (p : Program) → length cs ≤ 1024 → All (λ c. grammar.IsClass c) cs → AreLines lines
+    → (duplicate_fault cs ≡ None → first_some (supertypes_fault (setting cs)) cs ≡ None → IsFirstCycle (skeleton cs) cycle) → link_by cycle cs lines ≡ Ok p → Linked p
+linked_by cs lines cycle p few classes are first e =
+    let known = known_from cs classes in
+    let l = parts_by cs lines cycle p e in
+    let acyclic = no_cycle cs cycle (first l.different l.headed) l.acyclic in
+    subst Linked l.is (program_linked cs l.tests lines.files known (coded_from cs known) l.different l.headed acyclic l.resolved lines are few l.tests_are refl)
 
 -- what linking says of an answer makes its program a linked one
 pub links_linked : (cs : List ClassParts) (lines : TestLines) (answer : Result Program LinkFault) → length cs ≤ 1024 → All (λ c. grammar.IsClass c) cs → AreLines lines → Links cs lines answer → IfOk answer Linked

@@ -283,10 +283,6 @@ return_again : (us : List ℕ) → (us ≡ 86 ∷ []) ⊎ IsFieldType us → is_
 return_again us (inl v) = ap (λ b. b || is_field_descriptor us) ((bytes_eq-Decides us (86 ∷ [])).1 v)
 return_again us (inr f) = ap (λ b. bytes_eq us (86 ∷ []) || b) (field_again us f) ∙ or-true (bytes_eq us (86 ∷ []))
 
-cond_number : (b : Bool) (m n : ℕ) → cond b (Some m) None ≡ Some n → (b ≡ true) × (m ≡ n)
-cond_number true m n e = (refl, cc)
-cond_number false m n e = absurd cc
-
 pub method_taken : (us : List ℕ) (n : ℕ) → argument_units us ≡ Some n → IsMethodType us n
 unfolding argument_units
 method_taken [] n e = absurd cc
@@ -294,7 +290,7 @@ method_taken (u ∷ us) n e = by_test (eqb u 40)
     (λ h. let r : option_and_then (λ x. cond (is_return x.1) (Some x.0) None) (arguments (length us) 0 us) ≡ Some n =
     sym (ap (λ b. cond b (option_and_then (λ x. cond (is_return x.1) (Some x.0) None) (arguments (length us) 0 us)) None) h) ∙ e in
     let a = and_then_number (arguments (length us) 0 us) (λ x. cond (is_return x.1) (Some x.0) None) n r in
-    let c = cond_number (is_return a.0.1) a.0.0 n a.2 in
+    let c = some_cond (is_return a.0.1) a.0.0 n a.2 in
     let t = arguments_taken (length us) 0 us a.0 a.1 in
     record {
       arguments = t.types;

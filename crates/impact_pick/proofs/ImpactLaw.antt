@@ -1,5 +1,5 @@
 -- From class files and the record to report lines.
-use Rattle.std.proofs.Common.{◌≡◌, ℕ, zero, suc, ◌+◌, ◌-◌, ◌<◌, ◌≤◌, List, [], ◌∷◌, length, get_or, slice_get, filter, Bool, true, false, ◌||◌, cond, nat_eq, refl, sym, ◌∙◌, ap, subst, inl, inr, arith, Option, Some, None, Result, Ok, All, IsSome}
+use Rattle.std.proofs.Common.{◌≡◌, ℕ, zero, suc, ◌+◌, ◌-◌, ◌<◌, ◌≤◌, List, [], ◌∷◌, length, get_or, slice_get, filter, Bool, true, false, ◌||◌, cond, nat_eq, refl, sym, ◌∙◌, ap, subst, inl, inr, arith, Some, Ok, All, IsSome}
 use Rattle.std.specs.{List.range_with_len, Str.bytes_eq}
 use Rattle.std.proofs.lemmas.{Bool.or_cases, Bool.or_right, Bool.eqb-true, Option.slice_get_within, Option.slice_get-get_or, Option.get_or_from_slice_get}
 use Rattle.std.proofs.lemmas.Bool.{not-false}
@@ -9,12 +9,11 @@ use Rattle.class_reader.specs.ClassGrammar as grammar
 use Rattle.jvm_model.specs.declared.program.{Program.Program, ClassRec.ClassRec, TestEntry.TestEntry, Body.Body}
 use Rattle.jvm_model.specs.{Builtin.builtin_count, Classes.class_at, Classes.member, State.test_at, State.no_test, Suite.is_detected}
 use Rattle.jvm_model.specs.Linked.{Linked, IsDistinct, IsClass}
-use Rattle.class_link.specs.{declared.fault.LinkFault.LinkFault, declared.lines.TestLines.TestLines, ClassNames.all_names, Bodies.linked_body}
-use Rattle.class_link.specs.Faults.{first_some, duplicate_fault, supertypes_fault, all_references_fault}
+use Rattle.class_link.specs.{declared.lines.TestLines.TestLines, ClassNames.all_names, Bodies.linked_body}
 use Rattle.class_link.specs.Assembly.{mentions, given_classes, assembled, skeleton, bare_body}
-use Rattle.class_link.specs.Link.{setting, unless, cycle_fault, tests_of, program_of, link_by, Links, AreLines}
+use Rattle.class_link.specs.Link.{setting, program_of, Links, AreLines}
 use Rattle.class_link.proofs.{Assembled.class_count, Assembled.class_given, Blocks.at_place, Distinct.is_distinct, Listed.AllKnown}
-use Rattle.class_link.proofs.LinkLaw.{bound, unless_none, known_from, coded_from, links_linked}
+use Rattle.class_link.proofs.LinkLaw.{known_from, coded_from, links_linked, Parts, parts_by}
 use Rattle.order_law.specs.{Conflicts.Member, Histories.IsTestNumber, Matched.MatchedCode, Matched.Matched, Numbers.Numbers, Reach.IsRecordOf}
 use Rattle.order_law.specs.declared.records.{Prints.Prints, Record.Record, More.More}
 use Rattle.order_law.proofs.Members.{true_member}
@@ -22,37 +21,6 @@ use Rattle.impact_pick.specs.{Carried.PairedEntry, Carried.IsCarried, Pick.is_ch
 use Rattle.impact_pick.specs.{Unpicked.is_kept, Unpicked.lines_of, Unpicked.KeptClasses, ImpactLaw.HasSums, ImpactLaw.SumsTell, ImpactLaw.ImpactLaw}
 use Rattle.impact_pick.proofs.{Unpicked.kept_law, Unpicked.unpicked_law, Resolved.supers_there, Resolved.pools_name, Resolved.code_there}
 use Rattle.impact_pick.proofs.{Names.AreKept, Records.n, Starts.skeletons_match, Starts.matched, Lines.line_test, Lines.tests_long, Lines.line_carried}
-
--- ---- an answer's parts
-
-record Parts (cs : List ClassParts) (lines : TestLines) (p : Program) : Type 0 where
-  different : duplicate_fault cs ≡ None
-  headed : first_some (supertypes_fault (setting cs)) cs ≡ None
-  resolved : all_references_fault (setting cs) builtin_count cs ≡ None
-  tests : List TestEntry
-  tests_are : tests_of (setting cs) lines.budget [] lines.tests ≡ Ok tests
-  is : program_of cs tests lines.files ≡ p
-
-parts_by : (cs : List ClassParts) (lines : TestLines) (cycle : Option ℕ) (p : Program) → link_by cycle cs lines ≡ Ok p → Parts cs lines p
-unfolding link_by
-parts_by cs lines cycle p e =
-    let s = setting cs in
-    let a = bound (unless (duplicate_fault cs)) _ p e in
-    let b = bound (unless (first_some (supertypes_fault s) cs)) _ p a.2 in
-    let c = bound (unless (cycle_fault cs cycle)) _ p b.2 in
-    let d = bound (unless (all_references_fault s builtin_count cs)) _ p c.2 in
-    let t = bound (tests_of s lines.budget [] lines.tests) (λ ts. Ok (program_of cs ts lines.files)) p d.2 in
-    record {
-      different = unless_none (duplicate_fault cs) a.0 a.1;
-      headed = unless_none (first_some (supertypes_fault s) cs) b.0 b.1;
-      resolved = unless_none (all_references_fault s builtin_count cs) d.0 d.1;
-      tests = t.0;
-      tests_are = t.1;
-      is = (let z : ◌≡◌ {A = Result Program LinkFault} (Ok (program_of cs t.0 lines.files)) (Ok p) = t.2 in cc);
-    }
-
-parts_of : (cs : List ClassParts) (lines : TestLines) (p : Program) → Links cs lines (Ok p) → Parts cs lines p
-parts_of cs lines p (cycle, (first, e)) = parts_by cs lines cycle p (sym e)
 
 -- ---- what is mentioned is given
 
@@ -80,11 +48,11 @@ range_in (suc k) a d e = elim (or_cases (nat_eq d a) (member d (range_with_len (
 module _ (cs ds : List ClassParts) (lines : TestLines) (p q : Program) (x y : Prints) (r : Record) (m : More)
     (cs_are : All grammar.IsClass cs) (ds_are : All grammar.IsClass ds) (few : length cs ≤ 1024) (long : length cs ≡ length ds) (are : AreLines lines) (lp : Links cs lines (Ok p)) (lq : Links ds lines (Ok q))
     (sums : HasSums x cs) (other_sums : HasSums y ds) (tell : SumsTell x y cs ds) (is : IsRecordOf p x r) (e : r.more ≡ Some m) where
-  a : Parts cs lines p
-  a = parts_of cs lines p lp
+  a : Parts cs lines lp.0 p
+  a = parts_by cs lines lp.0 p (sym lp.1.1)
 
-  b : Parts ds lines q
-  b = parts_of ds lines q lq
+  b : Parts ds lines lq.0 q
+  b = parts_by ds lines lq.0 q (sym lq.1.1)
 
   abbrev body : ClassParts → CodePart → Body
   body c code = linked_body (setting cs) c.pool code
