@@ -5,10 +5,9 @@ use Rattle.jvm_model.specs.declared.values.Value.TheVariants as value
 use Rattle.jvm_model.specs.declared.values.Kind.TheVariants as kind
 use Rattle.jvm_model.specs.declared.instr.Instr.TheVariants as form
 use Rattle.jvm_model.specs.{World.World, Entries.Entries, Kinds.kind_fits, Kinds.class_of}
-use Rattle.jvm_model.specs.Builtin.{object_class, throwable_class, class_cast_exception, null_pointer_exception}
-use Rattle.jvm_model.specs.{Classes.is_below, Rows.constant_kind, Rows.answer, Rows.on_object}
+use Rattle.jvm_model.specs.{Builtin.object_class, Builtin.throwable_class, Builtin.class_cast_exception, Builtin.null_pointer_exception, Classes.is_below}
+use Rattle.jvm_model.specs.{Rows.constant_kind, Rows.answer, Rows.on_object, Linked.Linked, Linked.IsKind, Access.done}
 use Rattle.check_sound.proofs.{Instances.instance_below, Tree.typed_done, Tree.typed_known, Ends.fault_typed, KindNames.kind_instance}
-use Rattle.jvm_model.specs.{Linked.Linked, Linked.IsKind, Access.done}
 use Rattle.jvm_model.specs.{RowsCasts.cast_to, RowsCasts.cast, RowsCasts.tested, RowsCasts.row_casts, Step.group_of, Step.casts, Step.row_throw}
 use Rattle.type_frames.specs.{declared.vtype.VType.TheVariants.Object, Descriptors.name_of, Descriptors.kind_name, StackEffect.sides, Typing.IsTyped}
 use Rattle.type_frames.specs.TypedState.{kind_at, IsInstance, RefersTo}

@@ -29,9 +29,8 @@ use Rattle.electrictest.specs.{Commands.ReportEnds, Commands.Reported, Loads.IsS
 use Rattle.electrictest.specs.Generated.{IsSummary, IsSummed, IsWholeRequest, Sums, conflict_line, own_tests, own_units, summary_by, summary_text, whole_suite, worker_line}
 use Rattle.electrictest.specs.PoolRuns.{AreOwn, IsChosen, IsOfSuite, LawOfOwnRuns, PoolRefused, outcomes}
 use Rattle.electrictest.specs.{Replies.Unreported, Running.RunRefused, Selections.IsTestOf, Tallies.IsTallyOf, TestNames.units_in, Words.Ask}
-use Rattle.electrictest.proofs.{AllTests.closed_all, AskedFor.reports_as, PlanLaws.tests_have, PoolLaws.own_runs, PoolLaws.pool_ran}
+use Rattle.electrictest.proofs.{AllTests.closed_all, AskedFor.reports_as, PlanLaws.tests_have, PoolLaws.own_runs, PoolLaws.pool_ran, PoolReplies.is_of_suite}
 use Rattle.electrictest.proofs.GeneratedRuns.{all_pass, given_is, none_other, passed_many, passes, units_all}
-use Rattle.electrictest.proofs.PoolReplies.{is_of_suite}
 
 -- ---- loading
 

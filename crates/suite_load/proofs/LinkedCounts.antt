@@ -3,12 +3,10 @@ use Rattle.std.proofs.Common.{◌≡◌, ℕ, suc, ◌+◌, List, [], ◌∷◌,
 use Rattle.std.proofs.lemmas.List.{length_push, length-map}
 use Rattle.class_reader.specs.declared.parts.ClassParts.{ClassParts}
 use Rattle.jvm_model.specs.{declared.program.Program.Program, declared.program.TestEntry.TestEntry, Builtin.builtin_count}
-use Rattle.class_link.specs.declared.{fault.LinkFault.LinkFault, lines.TestLine.TestLine, lines.TestLines.TestLines}
+use Rattle.class_link.specs.{declared.fault.LinkFault.LinkFault, declared.lines.TestLine.TestLine, declared.lines.TestLines.TestLines, Assembly.assembled}
 use Rattle.class_link.specs.declared.fault.LinkFault.TheVariants as linking
-use Rattle.class_link.specs.{Assembly.assembled, Bodies.linked_body}
+use Rattle.class_link.specs.{Bodies.linked_body, Faults.test_entry, Link.setting, Link.tests_of, Link.program_of, Link.Links}
 use Rattle.class_link.proofs.{Assembled.class_count, LinkLaw.parts_by}
-use Rattle.class_link.specs.Faults.{test_entry}
-use Rattle.class_link.specs.Link.{setting, tests_of, program_of, Links}
 use Rattle.suite_load.specs.{declared.suite_text.SuiteText.SuiteText, Loading.line_of, Loading.lines_of}
 
 -- what is answered for the lines has as many tests
