@@ -2,7 +2,7 @@
 use Rattle.std.proofs.{Math.Bool.or-true, lemmas.List.Sums.sum_by-cons, lemmas.Slice.Eq.bytes_eq-Decides, Math.ListN.replicate}
 use Rattle.std.specs.{Str.bytes_eq, Option.option_and_then, Option.option_map, List.AllByRecursion, List.position_or_len, List.concat, List.sum_by}
 use Rattle.std.proofs.Common.{◌≡◌, ℕ, zero, suc, ◌+◌, ◌<◌, ◌≤◌, Bool, true, false, not, cond, eqb, ltb, leb, ◌&&◌, ◌||◌, ◌⊎◌, inl, inr, List, [], ◌∷◌, ◌++◌, length, take, drop, Option, Some, None, refl, sym, ap, subst, ◌∙◌, append_assoc, arith, position, add-zero, IsTrue, IfSome, ◌↔◌}
-use Rattle.std.proofs.lemmas.Bool.{eqb-true, ltb-true, lt-ltb, leb-true, le-leb, ltb-false, le-ltb, and_parts, or_cases, not-false}
+use Rattle.std.proofs.lemmas.Bool.{eqb-true, ltb-true, lt-ltb, leb-true, le-leb, ltb-false, le-ltb, and_parts, or_cases}
 use Rattle.std.proofs.lemmas.List.{take_at, drop_at, length-append, append-nil, length-replicate}
 use Rattle.et_base.specs.Names.{is_plain, is_class_name, is_base, after_class, after_element, after_type, ends, is_field_descriptor, after_close, closed, argument, arguments, argument_units, is_return, units_of_type}
 use Rattle.class_pool.specs.NamesGrammar.{IsElement, IsFieldType, IsMethodType}
@@ -113,9 +113,13 @@ element_again type rest (inl (c, is, base)) = ap (λ (t : List ℕ). after_eleme
 element_again type rest (inr (name, is, named)) =
     ap (λ (t : List ℕ). after_element (t ++ rest)) is ∙ ap (λ (t : List ℕ). after_class t) (append_assoc name (59 ∷ []) rest) ∙ class_again name rest named
 
+not_false : (b : Bool) → not b ≡ false → b ≡ true
+not_false true e = refl
+not_false false e = absurd cc
+
 brackets_only : (us : List ℕ) → AllByRecursion (λ u. not (eqb u 91) ≡ false) us → us ≡ replicate (length us) 91
 brackets_only [] h = refl
-brackets_only (u ∷ us) h = ap (λ n. n ∷ us) (eqb-true u 91 (not-false (eqb u 91) h.0)) ∙ ap (λ (x : List ℕ). 91 ∷ x) (brackets_only us h.1)
+brackets_only (u ∷ us) h = ap (λ n. n ∷ us) (eqb-true u 91 (not_false (eqb u 91) h.0)) ∙ ap (λ (x : List ℕ). 91 ∷ x) (brackets_only us h.1)
 
 only_brackets : (n : ℕ) → AllByRecursion (λ u. not (eqb u 91) ≡ false) (replicate n 91)
 only_brackets zero = tt
@@ -283,6 +287,10 @@ return_again : (us : List ℕ) → (us ≡ 86 ∷ []) ⊎ IsFieldType us → is_
 return_again us (inl v) = ap (λ b. b || is_field_descriptor us) ((bytes_eq-Decides us (86 ∷ [])).1 v)
 return_again us (inr f) = ap (λ b. bytes_eq us (86 ∷ []) || b) (field_again us f) ∙ or-true (bytes_eq us (86 ∷ []))
 
+cond_number : (b : Bool) (m n : ℕ) → cond b (Some m) None ≡ Some n → (b ≡ true) × (m ≡ n)
+cond_number true m n e = (refl, cc)
+cond_number false m n e = absurd cc
+
 pub method_taken : (us : List ℕ) (n : ℕ) → argument_units us ≡ Some n → IsMethodType us n
 unfolding argument_units
 method_taken [] n e = absurd cc
@@ -290,7 +298,7 @@ method_taken (u ∷ us) n e = by_test (eqb u 40)
     (λ h. let r : option_and_then (λ x. cond (is_return x.1) (Some x.0) None) (arguments (length us) 0 us) ≡ Some n =
     sym (ap (λ b. cond b (option_and_then (λ x. cond (is_return x.1) (Some x.0) None) (arguments (length us) 0 us)) None) h) ∙ e in
     let a = and_then_number (arguments (length us) 0 us) (λ x. cond (is_return x.1) (Some x.0) None) n r in
-    let c = some_cond (is_return a.0.1) a.0.0 n a.2 in
+    let c = cond_number (is_return a.0.1) a.0.0 n a.2 in
     let t = arguments_taken (length us) 0 us a.0 a.1 in
     record {
       arguments = t.types;
