@@ -8,6 +8,7 @@ pub mod Intervals
 pub mod AccessLogs
 pub mod Stands
 pub mod HaveEnded
+pub mod Spots
 pub mod Rows
 pub mod Counted
 pub mod Worlds

@@ -33,9 +33,9 @@ pub fn edge_of(
     ensures edge { IfOk result (λ e. e ≡ edge_by p.now (own.owner_in made.now) names.now later row.now) }
     ensures form { IfOk result (λ e. is_place_text e.first ≡ true) }
 {
-    let first = match row.spots.get(0) {
-        None => LocationKey::Static { field: 0 },
-        Some(spot) => *spot,
+    let first = match row.spots.as_slice() {
+        [] => LocationKey::Static { field: 0 },
+        [spot, ..] => *spot,
     };
     Ok(Edge {
         earlier: row.earlier,
@@ -193,6 +193,15 @@ pub fn made_of(alloc: Global, ended: &[Ended], last: u64) -> Result<Vec<u64>, No
     Ok(made)
 }
 
+/// How many rows these tests have.
+fn row_count(ended: &[Ended], last: &Ended) -> usize {
+    let mut count = last.rows.len();
+    for test in ended {
+        count = count.saturating_add(test.rows.len());
+    }
+    count
+}
+
 /// The edges of a run of tests: of those before the last, and of that.
 pub fn edges_of(
     alloc: Global,
@@ -209,7 +218,7 @@ pub fn edges_of(
         return Err(NoMemory {});
     }
     program_units(p);
-    let mut edges = Items::new(alloc);
+    let mut edges = Items::with_capacity(alloc, row_count(ended, last))?;
     for i in 0..ended.len() {
         let rows = ended[i].rows.as_slice();
         push_edges(alloc, p, made, names, i as u32 + 1, rows, &mut edges)?;

@@ -35,6 +35,7 @@ mod reads;
 mod room;
 mod rows;
 mod shown_text;
+mod spots;
 mod table;
 mod tags;
 mod texts;

@@ -4,13 +4,14 @@ ghost use Rattle.std.specs.Prelude.{◌≡◌, ◌+◌, ◌*◌, ◌<◌, ◌≤
 ghost use Rattle.access_tags.specs.Tag.{kind_number};
 
 use crate::conflict::{Conflict, LocationKey};
+use crate::spots::Spots;
 use et_base::{Items, NoMemory};
 use order_law::EdgeKind;
 use std::alloc::Global;
 use std::mem;
 
 /// How many locations a row shows at most.
-const SHOWN: usize = 8;
+const SHOWN: u32 = 8;
 
 /// The conflicts of one kind of a test with an earlier one: how many locations they are at, and the first 8 of these in
 /// the order in which the test touched them first.
@@ -19,7 +20,7 @@ pub struct Row {
     pub kind: EdgeKind,
     pub earlier: u32,
     pub count: u32,
-    pub spots: Items<LocationKey>,
+    pub spots: Spots,
 }
 
 impl Row {
@@ -29,14 +30,14 @@ impl Row {
     ghost use Rattle.access_tags.specs.Rows.{row_with, row_of, rows_between, HasRows, IsTable, key};
 
     /// No conflicts yet.
-    fn none(alloc: Global, kind: EdgeKind, earlier: u32) -> Row
+    fn none(kind: EdgeKind, earlier: u32) -> Row
         ensures { result ≡ row_with kind earlier [] }
     {
         Row {
             kind,
             earlier,
             count: 0,
-            spots: Items::new(alloc),
+            spots: Spots::new(),
         }
     }
 
@@ -48,8 +49,8 @@ impl Row {
         let Some(count) = self.count.checked_add(1) else {
             return Err(NoMemory {});
         };
-        if self.spots.len() < SHOWN {
-            show(alloc, &mut self.spots, spot)?;
+        if self.count < SHOWN {
+            self.spots.push(alloc, spot)?;
         }
         self.count = count;
         Ok(())
@@ -62,9 +63,9 @@ impl Row {
     {
         let mut rows = Vec::with_capacity(alloc, 3 * later as usize)?;
         for earlier in 0..later {
-            rows.push(Row::none(alloc, EdgeKind::Raw, earlier))?;
-            rows.push(Row::none(alloc, EdgeKind::Waw, earlier))?;
-            rows.push(Row::none(alloc, EdgeKind::War, earlier))?;
+            rows.push(Row::none(EdgeKind::Raw, earlier))?;
+            rows.push(Row::none(EdgeKind::Waw, earlier))?;
+            rows.push(Row::none(EdgeKind::War, earlier))?;
         }
         Ok(rows)
     }
@@ -90,19 +91,18 @@ impl Row {
     }
 
     /// Moves a row that has a location to the end of these.
-    fn hand_on(&mut self, alloc: Global, rows: &mut Items<Row>) -> Result<(), NoMemory>
+    fn hand_on(&mut self, rows: &mut Items<Row>) -> Result<(), NoMemory>
         ensures { OnOk result ((k : Kind) (u : ℕ) (xs : List Part) → self.old ≡ row_with k u xs → rows.new ≡ rows.old ++ row_of k u xs) }
     {
         if self.count == 0 {
             return Ok(());
         }
-        let none = Row::none(alloc, self.kind, self.earlier);
+        let none = Row::none(self.kind, self.earlier);
         rows.push(mem::replace(self, none))
     }
 
     /// Moves the rows of an earlier test that have a location to the end of these.
     pub fn hand_three_on(
-        alloc: Global,
         table: &mut Vec<Row>,
         earlier: u32,
         rows: &mut Items<Row>,
@@ -113,22 +113,11 @@ impl Row {
         ensures rows { OnOk result ((hs : List (Found Part)) → HasRows earlier hs table.old.items → rows.new ≡ rows.old ++ rows_between earlier hs) }
     {
         let first = 3 * earlier as usize;
-        table[first].hand_on(alloc, rows)?;
-        table[first + 1].hand_on(alloc, rows)?;
-        table[first + 2].hand_on(alloc, rows)?;
+        table[first].hand_on(rows)?;
+        table[first + 1].hand_on(rows)?;
+        table[first + 2].hand_on(rows)?;
         Ok(())
     }
-}
-
-/// Adds a location to those that a row shows. There is room for one at first, since most rows have no more.
-#[inline(never)]
-fn show(alloc: Global, spots: &mut Items<LocationKey>, spot: LocationKey) -> Result<(), NoMemory>
-    ensures { OnOk result (spots.new ≡ spots.old ++ spot ∷ []) }
-{
-    if spots.len() == 0 {
-        *spots = Items::with_capacity(alloc, 1)?;
-    }
-    spots.push(spot)
 }
 
 /// The place of a kind among the three.

@@ -17,7 +17,7 @@ use std::alloc::Global;
 const MOST_BYTES: usize = 200;
 
 /// Most texts have no more bytes, and are written without growing.
-const COMMON_BYTES: usize = 32;
+const COMMON_BYTES: usize = 24;
 
 // These are code units, as their type says.
 fn units(name: &[u16])

@@ -48,9 +48,17 @@ impl Table {
         ensures { OnOk result ((hs : List (Found Part)) → Counts self.old hs
             → rows.new ≡ rows.old ++ rows_to self.old.later hs) }
     {
+        if rows.is_empty() {
+            *rows = Items::with_capacity(self.alloc, self.filled())?;
+        }
         for earlier in 1..self.later {
-            Row::hand_three_on(self.alloc, &mut self.rows, earlier, rows)?;
+            Row::hand_three_on(&mut self.rows, earlier, rows)?;
         }
         Ok(())
+    }
+
+    /// How many rows have a location.
+    fn filled(&self) -> usize {
+        self.rows.iter().filter(|row| row.count > 0).count()
     }
 }

@@ -10,6 +10,9 @@ use et_base::{NoMemory, Text, push_decimal};
 use order_law::{Edge, EdgeKind, More, Reach, Record};
 use std::alloc::Global;
 
+/// Most lines of conflicts have no more bytes.
+const COMMON_LINE: usize = 32;
+
 // Appends a sum as 64 digits.
 fn push_hash(out: &mut Text, hash: &[u8; 32]) -> Result<(), NoMemory>
     ensures { OnOk result (out.new ≡ out.old ++ encode_lower hash.now) }
@@ -239,7 +242,8 @@ fn push_head(out: &mut Text, kept: &Record) -> Result<(), NoMemory>
 pub fn write_record(alloc: Global, kept: &Record) -> Result<Text, NoMemory>
     ensures { IfOk result (λ text. text ≡ line.record_text kept.now) }
 {
-    let mut out = Text::new(alloc);
+    let room = kept.edges.len().saturating_mul(COMMON_LINE);
+    let mut out = Text::with_capacity(alloc, room)?;
     push_head(&mut out, kept)?;
     push_suite_lines(&mut out, &kept.more)?;
     push_units_lines(&mut out, kept.units.as_slice())?;

@@ -8,8 +8,8 @@ use Rattle.access_tags.proofs.found.edges_of.Goals as goal
 
 pub loop-i-init : goal.loop-i-init
 loop-i-init c = record {
-  printed = rw c.new-edges.ensures refl;
-  edges = λ kept T a. c.new-edges.ensures;
+  printed = rw c.in_ok-edges.ensures refl;
+  edges = λ kept T a. c.in_ok-edges.ensures;
 }
 
 pub loop-i-preserved : goal.loop-i-preserved
