@@ -43,7 +43,7 @@ covered_tag write g k = ap (λ (m : Mark). tag_with g.writer g.readers m) (base 
     base false false true q = refl
     base false false false q = absurd (cc)
 
-covered_new : (write : Bool) (m : Mark) → covers write m ≡ true → is_new m ≡ false
+pub covered_new : (write : Bool) (m : Mark) → covers write m ≡ true → is_new m ≡ false
 covered_new write m = base m.exposed m.written
   where
     base : (e w : Bool) → (w || (e && not write)) ≡ true → (not e && not w) ≡ false
@@ -51,7 +51,7 @@ covered_new write m = base m.exposed m.written
     base false true q = refl
     base false false q = absurd (cc)
 
-covered_there : (write : Bool) (c : ℕ → Tag) (i l : ℕ) → covers write (c i).mark ≡ true → c l ≡ cond (nat_eq l i) (noted write (c i)) (c l)
+pub covered_there : (write : Bool) (c : ℕ → Tag) (i l : ℕ) → covers write (c i).mark ≡ true → c l ≡ cond (nat_eq l i) (noted write (c i)) (c l)
 covered_there write c i l k = elim (cases_Bool (nat_eq l i)) [
   | inl e ↦ rw e (ap c (eqb-true l i e) ∙ sym (covered_tag write (c i) k))
   | inr e ↦ rw e refl

@@ -77,7 +77,8 @@ impl Cells {
     }
 
     /// One more touch of a location by the running test. Answers whether it is the first.
-    #[tactic(auto, using(crate::proofs::Settle::marked_look, crate::proofs::Settle::marked_cells))]
+    #[inline(always)]
+    #[tactic(auto, using(crate::proofs::Settle::marked_look, crate::proofs::Settle::marked_cells, crate::proofs::Stood::covered_there, crate::proofs::Stood::covered_new))]
     pub fn note(&mut self, at: u64, write: bool) -> bool
         requires { at < count self.old }
         ensures first { result ≡ is_new (tag_in self.old at).mark }
@@ -86,6 +87,9 @@ impl Cells {
             ≡ cond (nat_eq l at) (noted write (tag_in self.old at)) (tag_in self.old l) }
     {
         let old = self.marks.get(at);
+        if old.covers(write) {
+            return false;
+        }
         self.marks.set(at, old.after(write));
         old.is_new()
     }
@@ -196,7 +200,9 @@ fn count_past(
     }
     if mark.written {
         count_writer(table, EdgeKind::Waw, place, past.writer)?;
-        count_readers(table, readers, past.readers, place)?;
+        // a copy, so that the place stays in registers where nothing was written
+        let shown = place;
+        count_readers(table, readers, past.readers, shown)?;
     }
     Ok(())
 }

@@ -278,6 +278,7 @@ impl<const WALKS: bool> Memory for TaggedMemory<WALKS> {
         Ok(head)
     }
 
+    #[inline(always)]
     fn get_field(&mut self, object: u64, field: u32) -> Result<Value, NoMemory> {
         let v = self.memory.get_field(object, field)?;
         self.note(

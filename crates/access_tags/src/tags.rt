@@ -39,6 +39,7 @@ impl Tags {
     ghost use Rattle.jvm_model.specs.declared.values.Location.TheVariants as place;
     ghost use Rattle.order_law.specs.Exposed.{exposed};
     ghost use Rattle.access_tags.specs.Stands.{HasTouched, Stands};
+    ghost use Rattle.access_tags.specs.declared.conflict.LocationKey.TheVariants as spots;
     ghost use Rattle.access_tags.specs.Rows.{edges_at, shown_by, with_places};
     ghost use Rattle.access_tags.specs.declared.rows.Row.{Row as Found};
     ghost use Rattle.jvm_model.specs.declared.program.Program.{Program};
@@ -122,7 +123,33 @@ impl Tags {
         if self.covers(spot, at, write) {
             return Ok(());
         }
-        self.note_change(spot, at, write)
+        match (spot, write) {
+            (LocationKey::Field { object, field }, false) => {
+                self.note_field_read(object, field, at)
+            }
+            (LocationKey::Elem { object, index }, false) => self.note_elem_read(object, index, at),
+            _ => self.note_change(spot, at, write),
+        }
+    }
+
+    /// One more read of a field, which may change its tag.
+    #[inline(never)]
+    fn note_field_read(&mut self, object: u64, field: u32, at: u64) -> Result<(), NoMemory>
+        ensures cells { count self.new.cells ≡ count self.old.cells }
+        ensures named { count self.new.named ≡ count self.old.named }
+        ensures stands { OnOk result (HasTouched self.old self.new (spots.Field object field) at false) }
+    {
+        self.note_first(LocationKey::Field { object, field }, at, false)
+    }
+
+    /// One more read of an element, which may change its tag.
+    #[inline(never)]
+    fn note_elem_read(&mut self, object: u64, index: u32, at: u64) -> Result<(), NoMemory>
+        ensures cells { count self.new.cells ≡ count self.old.cells }
+        ensures named { count self.new.named ≡ count self.old.named }
+        ensures stands { OnOk result (HasTouched self.old self.new (spots.Elem object index) at false) }
+    {
+        self.note_first(LocationKey::Elem { object, index }, at, false)
     }
 
     /// One more touch of a part, which may change its tag.
