@@ -23,7 +23,12 @@ pub struct State {
 
 impl State {
     /// The state in which a test starts: no entries, and nothing printed. The room for entries is handed on.
-    pub fn start(alloc: Global, p: &Program, test: u32, frames: FrameStack) -> Result<State, NoMemory>
+    pub fn start(
+        alloc: Global,
+        p: &Program,
+        test: u32,
+        frames: FrameStack,
+    ) -> Result<State, NoMemory>
         requires { frames ≡ no_entries }
         ensures { IfOk result (λ s. abs s ≡ states.started p.now test) }
     {
