@@ -1,5 +1,5 @@
 -- What the step of an instruction that was found asks for, and the steps of forms that touch nothing.
-use Rattle.std.proofs.Common.{◌≡◌, ◌<◌, ℕ, suc, List, Bool, cond, refl, sym, ap, ◌∙◌, subst, arith, Option, Some, None, true, false, nat_le, ◌-◌}
+use Rattle.std.proofs.Common.{◌≡◌, ◌<◌, ◌+◌, ℕ, suc, List, Bool, cond, refl, sym, ap, ◌∙◌, subst, arith, Option, Some, None, true, false, nat_le, ◌-◌}
 use Rattle.jvm_model.specs.declared.values.Touch.{Touch}
 use Rattle.jvm_model.specs.declared.instr.Instr.{Instr}
 use Rattle.jvm_model.specs.declared.outcome.Next.{Next}
@@ -46,14 +46,14 @@ module _ (p : Program) (s : Entries) (w : World) (i : Instr) (n : ℕ) (u : Entr
   hot_touches : (ts : List Touch) → touched (row p i s) w ts ≡ ts
   hot_touches ts = ap (λ (a : Access (Answer Entries)). touched a w ts) (h.row p place)
 
-  went_meets : (left : ℕ) → 0 < left → Refines (form_row i) p w s left Go u w (left - 1)
-  went_meets left l = hot_meets left (left - 1) (omega arith)
+  went_meets : (left : ℕ) → Refines (form_row i) p w s (left + 1) Go u w left
+  went_meets left = hot_meets (left + 1) left (omega arith)
 
   went_tells : {M : Type 0} (follows : M → Trace → List Touch → Type 0) (m : M) → Traces (form_row i) p w s Go follows m m
   went_tells follows m o h ts k = subst (λ (us : List Touch). follows m h us) (sym (hot_touches ts)) k
 
-pub branch_meets : (p : Program) (w : World) (i : ℕ → Instr) (b : Bool) (to n : ℕ) (s u : Entries) (left : ℕ) → Branches i b s u → next_place p s.top.number s.top.pc ≡ n → 0 < left → Refines (form_row (i to)) p w s left Go (with_place u (cond b to n)) w (left - 1)
-branch_meets p w i b to n s u left h e l = went_meets p s w (i to) n (with_place u (cond b to n)) e (branches i b to n s u h) left l
+pub branch_meets : (p : Program) (w : World) (i : ℕ → Instr) (b : Bool) (to n : ℕ) (s u : Entries) (left : ℕ) → Branches i b s u → next_place p s.top.number s.top.pc ≡ n → Refines (form_row (i to)) p w s (left + 1) Go (with_place u (cond b to n)) w left
+branch_meets p w i b to n s u left h e = went_meets p s w (i to) n (with_place u (cond b to n)) e (branches i b to n s u h) left
 
 pub branch_tells : {M : Type 0} (follows : M → Trace → List Touch → Type 0) (m : M) (p : Program) (w : World) (i : ℕ → Instr) (b : Bool) (to : ℕ) (s u : Entries) → Branches i b s u → Traces (form_row (i to)) p w s Go follows m m
 branch_tells follows m p w i b to s u h = went_tells p s w (i to) (next_place p s.top.number s.top.pc) (with_place u (cond b to (next_place p s.top.number s.top.pc))) refl (branches i b to (next_place p s.top.number s.top.pc) s u h) follows m
@@ -78,8 +78,8 @@ module _ (p : Program) (s : State) (w : World) (can : CanStep p w s) (k : s.entr
   can_run i e = by_pure p i s.entries w (is_pure (group_of i)) refl (there p s.entries i w e row_safe) ((can.space k r).room i e)
 
 -- a form that goes on, and the place of the next instruction
-pub straight_meets : (p : Program) (w : World) (i : Instr) (n : ℕ) (s u : Entries) (left : ℕ) → GoesOn i s u → next_place p s.top.number s.top.pc ≡ n → 0 < left → Refines (form_row i) p w s left Go (with_place u n) w (left - 1)
-straight_meets p w i n s u left h e l = went_meets p s w i n (with_place u n) e (goes i n s u h) left l
+pub straight_meets : (p : Program) (w : World) (i : Instr) (n : ℕ) (s u : Entries) (left : ℕ) → GoesOn i s u → next_place p s.top.number s.top.pc ≡ n → Refines (form_row i) p w s (left + 1) Go (with_place u n) w left
+straight_meets p w i n s u left h e = went_meets p s w i n (with_place u n) e (goes i n s u h) left
 
 pub straight_tells : {M : Type 0} (follows : M → Trace → List Touch → Type 0) (m : M) (p : Program) (w : World) (i : Instr) (s u : Entries) → GoesOn i s u → Traces (form_row i) p w s Go follows m m
 straight_tells follows m p w i s u h = went_tells p s w i (next_place p s.top.number s.top.pc) (with_place u (next_place p s.top.number s.top.pc)) refl (goes i (next_place p s.top.number s.top.pc) s u h) follows m
@@ -89,23 +89,23 @@ targets : (i : Instr) (to n : ℕ) (s u : Entries) → GoesTo i to s u → Goes 
 targets i to n s u h = record { frame = h.frame.kind; number = h.frame.number; row = λ p e. h.row p s.top.pc }
 
 module _ (p : Program) (w : World) (i : Instr) (to : ℕ) (s u : Entries) (h : GoesTo i to s u) where
-  target_meets : (left : ℕ) → 0 < left → Refines (form_row i) p w s left Go (with_place u to) w (left - 1)
-  target_meets left l = went_meets p s w i (next_place p s.top.number s.top.pc) (with_place u to) refl (targets i to (next_place p s.top.number s.top.pc) s u h) left l
+  target_meets : (left : ℕ) → Refines (form_row i) p w s (left + 1) Go (with_place u to) w left
+  target_meets left = went_meets p s w i (next_place p s.top.number s.top.pc) (with_place u to) refl (targets i to (next_place p s.top.number s.top.pc) s u h) left
 
   target_tells : {M : Type 0} (follows : M → Trace → List Touch → Type 0) (m : M) → Traces (form_row i) p w s Go follows m m
   target_tells follows m = went_tells p s w i (next_place p s.top.number s.top.pc) (with_place u to) refl (targets i to (next_place p s.top.number s.top.pc) s u h) follows m
 
-pub target_made : {M : Type 0} (program : M → Program) (world : M → World) (follows : M → Trace → List Touch → Type 0) (m : M) (i : Instr) (to : ℕ) (s u t : Entries) (left left' : ℕ) → GoesTo i to s u → t ≡ with_place u to → left' ≡ left - 1 → 0 < left → (program m ≡ program m) × EndsFlow (form_row i) program world follows m m s left Jump t left'
-target_made program world follows m i to s u t left left' h e k l = (refl, (rw (e, k) (target_meets (program m) (world m) i to s u h left l), target_tells (program m) (world m) i to s u h follows m))
+pub target_made : {M : Type 0} (program : M → Program) (world : M → World) (follows : M → Trace → List Touch → Type 0) (m : M) (i : Instr) (to : ℕ) (s u t : Entries) (left : ℕ) → GoesTo i to s u → t ≡ with_place u to → (program m ≡ program m) × EndsFlow (form_row i) program world follows m m s (left + 1) Jump t left
+target_made program world follows m i to s u t left h e = (refl, (rw (e) (target_meets (program m) (world m) i to s u h left), target_tells (program m) (world m) i to s u h follows m))
 
 -- a form that goes on at the next instruction or throws by itself
-pub settled_meets : (p : Program) (w : World) (i : Instr) (x : Next) (n : ℕ) (s u : Entries) (left : ℕ) → Ends i x s u → next_place p s.top.number s.top.pc ≡ n → 0 < left → Refines (form_row i) p w s left (next_of (settled_flow x)) (settled x n u) w (settled_units x left)
-settled_meets p w i Go n s u left h e l = straight_meets p w i n s u left h e l
-settled_meets p w i (Fault c) n s u left h e l = thrown i n left (Fault c) s u h (λ k. absurd (cc)) p w e
-settled_meets p w i (Raise v) n s u left h e l = absurd h
-settled_meets p w i (Enter m) n s u left h e l = absurd h
-settled_meets p w i Leave n s u left h e l = absurd h
-settled_meets p w i Over n s u left h e l = absurd h
+pub settled_meets : (p : Program) (w : World) (i : Instr) (x : Next) (n : ℕ) (s u : Entries) (left : ℕ) → Ends i x s u → next_place p s.top.number s.top.pc ≡ n → Refines (form_row i) p w s (left + 1) (next_of (settled_flow x)) (settled x n u) w (settled_units x left)
+settled_meets p w i Go n s u left h e = straight_meets p w i n s u left h e
+settled_meets p w i (Fault c) n s u left h e = thrown i n (left + 1) (Fault c) s u h (λ k. absurd (cc)) p w e
+settled_meets p w i (Raise v) n s u left h e = absurd h
+settled_meets p w i (Enter m) n s u left h e = absurd h
+settled_meets p w i Leave n s u left h e = absurd h
+settled_meets p w i Over n s u left h e = absurd h
 
 pub settled_left : (i : Instr) (x : Next) (n : ℕ) (s u : Entries) → Ends i x s u → s.top.kind ≡ InMethod → IsLeft (settled_flow x) s.top.number n (settled x n u)
 settled_left i Go n s u h k = (record { frame = h.frame.kind ∙ k; number = h.frame.number }, refl)

@@ -1,5 +1,5 @@
 -- Steps of a test, one after the other.
-use Rattle.std.specs.Prelude.{◌≡◌, ◌≢◌, ◌<◌, ◌-◌, ℕ, suc, Result, IfOk, List, ◌∷◌, length, drop, Bool, true, false, Some, None, IsSome}
+use Rattle.std.specs.Prelude.{◌≡◌, ◌≢◌, ◌<◌, ◌+◌, ℕ, suc, Result, IfOk, List, ◌∷◌, length, drop, Bool, true, false, Some, None, IsSome}
 use Rattle.jvm_model.specs.declared.library.Native.TheVariants as native
 use Rattle.jvm_model.specs.declared.values.{Touch.Touch, Value.Value}
 use Rattle.jvm_model.specs.declared.instr.Instr.{Instr}
@@ -144,7 +144,7 @@ next_of (Call m) = Enter m
 next_of (Other x) = x
 
 -- How a form that answered this leaves the entry at the top, where it touches nothing: it goes on at the next instruction,
--- at this place, and 1 is counted; else all is as the form left it.
+-- at this place, and the 1 stays counted; else all is as the form left it, and the 1 is left again.
 abbrev pub settled_flow : Next → Flow
 settled_flow Go = FallThrough
 settled_flow x = Other x
@@ -154,8 +154,8 @@ settled Go n s = with_place s n
 settled x n s = s
 
 abbrev pub settled_units : Next → ℕ → ℕ
-settled_units Go left = left - 1
-settled_units x left = left
+settled_units Go left = left
+settled_units x left = left + 1
 
 -- over a memory a row leaves the entry at the top so, and the memory follows its touches
 abbrev pub EndsFlow : {M : Type 0} → Row Entries → (M → Program) → (M → World) → (M → Trace → List Touch → Type 0) → M → M

@@ -173,7 +173,8 @@ fn dispatch_loop<'p, M: Memory>(
     Ok(Next::Over)
 }
 
-/// Makes the row of the instruction at the top, the first of these of its method's code.
+/// Makes the row of the instruction at the top, the first of these of its method's code. The 1 of its step is counted
+/// before, in one place for all forms.
 #[inline(always)]
 fn row_at<M: Memory>(
     stack: &mut FrameStack,
@@ -200,6 +201,7 @@ fn row_at<M: Memory>(
     let rest = cursor.rest;
     let placed = &rest[0];
     stack.set_pc(placed.pc);
+    *left -= 1;
     let flow = hot_row(
         stack,
         memory,

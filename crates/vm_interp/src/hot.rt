@@ -1,6 +1,6 @@
 //! The rows of instructions in one flat match, so that one jump finds each: those that run often, and apart the others.
 
-ghost use Rattle.std.specs.Prelude.{◌≡◌, ◌<◌, ◌-◌, ℕ, IfOk, Some, cond, length};
+ghost use Rattle.std.specs.Prelude.{◌≡◌, ◌<◌, ◌+◌, ◌^◌, ℕ, IfOk, Some, cond, length};
 ghost use Rattle.jvm_model.specs.declared.instr.Instr.TheVariants as form;
 ghost use Rattle.jvm_model.specs.{Classes.form_at, Entries.Entries, Entries.with_place};
 ghost use Rattle.jvm_model.specs.Step as steps;
@@ -37,7 +37,8 @@ use vm_objects::{
 use vm_tables::Tables;
 
 /// Makes the row of an instruction that was found, at its place in its method's code. Those that run often are made
-/// here, and the others apart. The place of the next one is read only where it's asked for.
+/// here, and the others apart. The place of the next one is read only where it's asked for. The 1 of its step
+/// is counted already.
 #[inline(always)]
 #[tactic(auto, unfolding(jvm_model::specs::Step::row_here))]
 pub fn hot_row<M: Memory>(
@@ -57,9 +58,9 @@ pub fn hot_row<M: Memory>(
     requires row { IsReady steps.row_here tables.now M.program M.world memory.old stack.old }
     requires can { CanRun form.now stack.old }
     requires frame { stack.old.top.kind ≡ InMethod }
-    requires units { 0 < left.old }
+    requires units { left.old + 1 < 2 ^ 64 }
     ensures made { MakesFlow steps.row_here M.program M.world M.follows
-        memory.old memory.new stack.old left.old result stack.new left.new }
+        memory.old memory.new stack.old (left.old + 1) result stack.new left.new }
     ensures left { IfOk result (λ x. IsLeft x stack.old.top.number
         (place_behind cursor.entry.body.now cursor.entry.rest.now) stack.new) }
     ensures kept { selections.new ≡ selections.old }
@@ -87,9 +88,9 @@ fn hot_form<M: Memory>(
     requires row { IsReady (form_row form.now) tables.now M.program M.world memory.old stack.old }
     requires can { CanRun form.now stack.old }
     requires frame { stack.old.top.kind ≡ InMethod }
-    requires units { 0 < left.old }
+    requires units { left.old + 1 < 2 ^ 64 }
     ensures made { MakesFlow (form_row form.now) M.program M.world M.follows
-        memory.old memory.new stack.old left.old result stack.new left.new }
+        memory.old memory.new stack.old (left.old + 1) result stack.new left.new }
     ensures left { IfOk result (λ x. IsLeft x stack.old.top.number
         (place_behind cursor.entry.body.now cursor.entry.rest.now) stack.new) }
     ensures kept { selections.new ≡ selections.old }
@@ -97,122 +98,126 @@ fn hot_form<M: Memory>(
     match form {
         Instr::Const(v) => {
             push_constant(stack, v);
-            Ok(fall_through(stack, cursor, left))
+            Ok(fall_through(stack, cursor))
         }
         Instr::Load { local, .. } => {
             load_local(stack, *local);
-            Ok(fall_through(stack, cursor, left))
+            Ok(fall_through(stack, cursor))
         }
         Instr::Store { local, .. } => {
             store_local(stack, *local);
-            Ok(fall_through(stack, cursor, left))
+            Ok(fall_through(stack, cursor))
         }
         Instr::Dup => {
             dup(stack);
-            Ok(fall_through(stack, cursor, left))
+            Ok(fall_through(stack, cursor))
         }
         Instr::Pop => {
             pop(stack);
-            Ok(fall_through(stack, cursor, left))
+            Ok(fall_through(stack, cursor))
         }
         Instr::Inc { local, by } => {
             increase(stack, *local, *by);
-            Ok(fall_through(stack, cursor, left))
+            Ok(fall_through(stack, cursor))
         }
         Instr::Convert { to } => {
             convert(stack, *to);
-            Ok(fall_through(stack, cursor, left))
+            Ok(fall_through(stack, cursor))
         }
         Instr::Compare => {
             compare(stack);
-            Ok(fall_through(stack, cursor, left))
+            Ok(fall_through(stack, cursor))
         }
         Instr::Binary {
             op: Op::Add,
             wide: false,
         } => {
             add_ints(stack);
-            Ok(fall_through(stack, cursor, left))
+            Ok(fall_through(stack, cursor))
         }
         Instr::Binary {
             op: Op::Sub,
             wide: false,
         } => {
             subtract_ints(stack);
-            Ok(fall_through(stack, cursor, left))
+            Ok(fall_through(stack, cursor))
         }
         Instr::Binary {
             op: Op::Mul,
             wide: false,
         } => {
             multiply_ints(stack);
-            Ok(fall_through(stack, cursor, left))
+            Ok(fall_through(stack, cursor))
         }
         Instr::Binary {
             op: Op::And,
             wide: false,
         } => {
             and_ints(stack);
-            Ok(fall_through(stack, cursor, left))
+            Ok(fall_through(stack, cursor))
         }
         Instr::Binary { op, wide } => calculate(stack, memory, *op, *wide, cursor, left),
         Instr::Neg { wide: false } => {
             neg_int(stack);
-            Ok(fall_through(stack, cursor, left))
+            Ok(fall_through(stack, cursor))
         }
         Instr::Neg { wide: true } => {
             neg_long(stack);
-            Ok(fall_through(stack, cursor, left))
+            Ok(fall_through(stack, cursor))
         }
         Instr::IfZero { test, to } => {
             let taken = if_zero(stack, *test);
-            Ok(branch(stack, taken, *to, cursor, left))
+            Ok(branch(stack, taken, *to, cursor))
         }
         Instr::IfInts { test, to } => {
             let taken = if_ints(stack, *test);
-            Ok(branch(stack, taken, *to, cursor, left))
+            Ok(branch(stack, taken, *to, cursor))
         }
         Instr::IfRefs { same, to } => {
             let taken = if_refs(stack, *same);
-            Ok(branch(stack, taken, *to, cursor, left))
+            Ok(branch(stack, taken, *to, cursor))
         }
         Instr::IfNull { null, to } => {
             let taken = if_null(stack, *null);
-            Ok(branch(stack, taken, *to, cursor, left))
+            Ok(branch(stack, taken, *to, cursor))
         }
         Instr::Goto { to } => {
-            jump(stack, *to, left);
+            stack.set_pc(*to);
             Ok(Flow::Jump)
         }
         Instr::Table {
             low,
             targets,
             other,
-        } => switch_by_table(stack, memory, *low, targets.as_slice(), *other, left),
+        } => switch_by_table(stack, memory, *low, targets.as_slice(), *other),
         Instr::Lookup { pairs, other } => {
-            switch_by_lookup(stack, memory, pairs.as_slice(), *other, left)
+            switch_by_lookup(stack, memory, pairs.as_slice(), *other)
         }
         Instr::GetField { field, .. } => {
             let method = stack.number();
             let next = place_after(cursor);
+            uncount(left);
             let answer = get_field(stack, memory, *field, next, left)?;
             Ok(classify_flow(answer, stack, method, next))
         }
         Instr::PutField { field, .. } => {
             let method = stack.number();
             let next = place_after(cursor);
+            uncount(left);
             let answer = put_field(stack, memory, tables, *field, next, left)?;
             Ok(classify_flow(answer, stack, method, next))
         }
         Instr::ArrayLength => {
             let method = stack.number();
             let next = place_after(cursor);
+            uncount(left);
             let answer = array_length(stack, memory, next, left)?;
             Ok(classify_flow(answer, stack, method, next))
         }
         Instr::ArrayLoad { .. } => {
             let method = stack.number();
             let next = place_after(cursor);
+            uncount(left);
             let answer = array_load(stack, memory, next, left)?;
             Ok(classify_flow(answer, stack, method, next))
         }
@@ -221,61 +226,80 @@ fn hot_form<M: Memory>(
         } => {
             let method = stack.number();
             let next = place_after(cursor);
+            uncount(left);
             let answer = array_store_number(stack, memory, next, left)?;
             Ok(classify_flow(answer, stack, method, next))
         }
         Instr::GetStatic { field } => {
             let method = stack.number();
             let next = place_after(cursor);
+            uncount(left);
             let answer = get_static(stack, memory, tables, *field, next, left)?;
             Ok(classify_flow(answer, stack, method, next))
         }
         Instr::PutStatic { field } => {
             let method = stack.number();
             let next = place_after(cursor);
+            uncount(left);
             let answer = put_static(stack, memory, tables, *field, next, left)?;
             Ok(classify_flow(answer, stack, method, next))
         }
         Instr::New { class } => {
             let method = stack.number();
             let next = place_after(cursor);
+            uncount(left);
             let answer = new_object(stack, memory, tables, *class, next, left)?;
             Ok(classify_flow(answer, stack, method, next))
         }
         Instr::InvokeStatic { method } => {
+            uncount(left);
             let answer = invoke_static(stack, memory, tables, *method, left)?;
             Ok(called(answer))
         }
         Instr::InvokeSpecial { named, method } => {
+            uncount(left);
             let answer = invoke_special(stack, memory, tables, selections, *named, *method, left)?;
             Ok(called(answer))
         }
         Instr::InvokeVirtual { .. } | Instr::InvokeInterface { .. } => {
+            uncount(left);
             call_on_object(stack, memory, tables, selections, form, left)
         }
         Instr::Return { of: Some(of) } => {
+            uncount(left);
             let answer = give_back(stack, memory, tables, Some(*of), left)?;
             Ok(Flow::Other(answer))
         }
         Instr::Return { of: None } => {
+            uncount(left);
             let answer = return_nothing(stack, memory, tables, left)?;
             Ok(Flow::Other(answer))
         }
-        _ => row_apart(stack, memory, tables, selections, form, cursor, left),
+        _ => {
+            uncount(left);
+            row_apart(stack, memory, tables, selections, form, left)
+        }
     }
 }
 
-/// Goes on at the next instruction, and counts the step.
+/// Leaves the 1 of a step again that was counted before, where the row counts it by itself.
 #[inline(always)]
-fn fall_through(stack: &mut FrameStack, cursor: InstrCursor<'_>, left: &mut u64) -> Flow
-    requires { 0 < left.old }
+fn uncount(left: &mut u64)
+    requires { left.old + 1 < 2 ^ 64 }
+    ensures { left.new ≡ left.old + 1 }
+{
+    *left += 1;
+}
+
+/// Goes on at the next instruction.
+#[inline(always)]
+fn fall_through(stack: &mut FrameStack, cursor: InstrCursor<'_>) -> Flow
     ensures flow { result ≡ FallThrough }
     ensures place { stack.new
         ≡ with_place stack.old (place_behind cursor.entry.body.now cursor.entry.rest.now) }
-    ensures counted { left.new ≡ left.old - 1 }
 {
     let next = place_after(cursor);
-    jump(stack, next, left);
+    stack.set_pc(next);
     Flow::FallThrough
 }
 
@@ -294,9 +318,9 @@ fn calculate<M: Memory>(
         (place_behind cursor.body.now cursor.rest.now) }
     requires row { HasRow (form.Binary op wide) stack.old }
     requires frame { stack.old.top.kind ≡ InMethod }
-    requires units { 0 < left.old }
+    requires units { left.old + 1 < 2 ^ 64 }
     ensures made { MakesFlow (form_row (form.Binary op wide)) M.program M.world M.follows
-        _memory.old _memory.new stack.old left.old result stack.new left.new }
+        _memory.old _memory.new stack.old (left.old + 1) result stack.new left.new }
     ensures left { IfOk result (λ x. IsLeft x stack.old.top.number
         (place_behind cursor.entry.body.now cursor.entry.rest.now) stack.new) }
 {
@@ -317,19 +341,21 @@ fn binary(stack: &mut FrameStack, op: Op, wide: bool) -> Next
     }
 }
 
-/// Goes on at the next instruction, and counts the step, where a form that touches nothing answered so.
+/// Goes on at the next instruction, where a form that touches nothing answered so; else it leaves the 1 of the step again.
 #[inline(always)]
 fn settle(answer: Next, stack: &mut FrameStack, cursor: InstrCursor<'_>, left: &mut u64) -> Flow
-    requires { 0 < left.old }
+    requires { left.old + 1 < 2 ^ 64 }
     ensures flow { result ≡ settled_flow answer }
     ensures entries { stack.new
         ≡ settled answer (place_behind cursor.entry.body.now cursor.entry.rest.now) stack.old }
     ensures counted { left.new ≡ settled_units answer left.old }
 {
     match answer {
-        Next::Go => fall_through(stack, cursor, left),
-        Next::Fault { .. } | Next::Raise(_) | Next::Enter { .. } | Next::Leave | Next::Over =>
-            Flow::Other(answer),
+        Next::Go => fall_through(stack, cursor),
+        Next::Fault { .. } | Next::Raise(_) | Next::Enter { .. } | Next::Leave | Next::Over => {
+            uncount(left);
+            Flow::Other(answer)
+        }
     }
 }
 
@@ -341,17 +367,15 @@ fn switch_by_table<M: Memory>(
     low: i32,
     targets: &[u32],
     other: u32,
-    left: &mut u64,
 ) -> Result<Flow, NoMemory>
     requires row { HasIntOnTop stack.old.top.stack }
     requires frame { stack.old.top.kind ≡ InMethod }
-    requires units { 0 < left.old }
-    ensures made { MakesFlow (form_row (form.Table low targets.now other)) M.program M.world
-        M.follows _memory.old _memory.new stack.old left.old result stack.new left.new }
+    ensures made { (left : ℕ) → MakesFlow (form_row (form.Table low targets.now other)) M.program
+        M.world M.follows _memory.old _memory.new stack.old (left + 1) result stack.new left }
     ensures left { IfOk result (λ x. (next : ℕ) → IsLeft x stack.old.top.number next stack.new) }
 {
     let to = table_switch(stack, low, targets, other);
-    jump(stack, to, left);
+    stack.set_pc(to);
     Ok(Flow::Jump)
 }
 
@@ -362,37 +386,27 @@ fn switch_by_lookup<M: Memory>(
     _memory: &mut M,
     pairs: &[(i32, u32)],
     other: u32,
-    left: &mut u64,
 ) -> Result<Flow, NoMemory>
     requires row { HasIntOnTop stack.old.top.stack }
     requires frame { stack.old.top.kind ≡ InMethod }
-    requires units { 0 < left.old }
-    ensures made { MakesFlow (form_row (form.Lookup pairs.now other)) M.program M.world
-        M.follows _memory.old _memory.new stack.old left.old result stack.new left.new }
+    ensures made { (left : ℕ) → MakesFlow (form_row (form.Lookup pairs.now other)) M.program
+        M.world M.follows _memory.old _memory.new stack.old (left + 1) result stack.new left }
     ensures left { IfOk result (λ x. (next : ℕ) → IsLeft x stack.old.top.number next stack.new) }
 {
     let to = lookup_switch(stack, pairs, other);
-    jump(stack, to, left);
+    stack.set_pc(to);
     Ok(Flow::Jump)
 }
 
-/// Goes on at the target of a branch that is taken, else at the next instruction, and counts the step.
+/// Goes on at the target of a branch that is taken, else at the next instruction.
 #[inline(always)]
-fn branch(
-    stack: &mut FrameStack,
-    taken: bool,
-    to: u32,
-    cursor: InstrCursor<'_>,
-    left: &mut u64,
-) -> Flow
-    requires { 0 < left.old }
+fn branch(stack: &mut FrameStack, taken: bool, to: u32, cursor: InstrCursor<'_>) -> Flow
     ensures flow { result ≡ cond taken Jump FallThrough }
     ensures place { stack.new ≡ with_place stack.old
         (cond taken to (place_behind cursor.entry.body.now cursor.entry.rest.now)) }
-    ensures counted { left.new ≡ left.old - 1 }
 {
     let next = place_after(cursor);
-    jump(stack, target(taken, to, next), left);
+    stack.set_pc(target(taken, to, next));
     aside_if(taken)
 }
 
@@ -483,11 +497,9 @@ fn row_apart<M: Memory>(
     tables: &Tables,
     selections: &mut Selections,
     form: &Instr,
-    cursor: InstrCursor<'_>,
     left: &mut u64,
 ) -> Result<Flow, NoMemory>
     requires selections { selections.old ≡ tables.now }
-    requires place { IsNext tables.now stack.old (place_behind cursor.body.now cursor.rest.now) }
     requires room { HasRoom (puts form.now) stack.old }
     requires below { HasPlaceBelow form.now stack.old }
     requires row { IsReady (form_row form.now) tables.now M.program M.world memory.old stack.old }
@@ -496,7 +508,7 @@ fn row_apart<M: Memory>(
     ensures left { IfOk result (λ x. (method next : ℕ) (s : Entries) → IsLeft x method next s) }
     ensures kept { selections.new ≡ selections.old }
 {
-    let next = place_after(cursor);
+    let next = tables.next_place(stack.number(), stack.pc());
     let mut moved = mem::replace(stack, FrameStack::new(selections.alloc()));
     let mut units = *left;
     let answer = row_of(
@@ -505,17 +517,6 @@ fn row_apart<M: Memory>(
     *stack = moved;
     *left = units;
     Ok(Flow::Other(answer))
-}
-
-/// Goes on at a place of the code, and counts the step.
-#[inline(always)]
-fn jump(stack: &mut FrameStack, to: u32, left: &mut u64)
-    requires { 0 < left.old }
-    ensures place { stack.new ≡ with_place stack.old to }
-    ensures counted { left.new ≡ left.old - 1 }
-{
-    stack.set_pc(to);
-    *left -= 1;
 }
 
 /// The target of a branch that is taken, else the next instruction's place.
