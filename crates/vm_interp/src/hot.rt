@@ -189,9 +189,9 @@ fn hot_form<M: Memory>(
             low,
             targets,
             other,
-        } => switch_by_table(stack, memory, *low, targets.as_slice(), *other),
+        } => switch_by_table(stack, memory, *low, targets.as_slice(), *other, *left),
         Instr::Lookup { pairs, other } => {
-            switch_by_lookup(stack, memory, pairs.as_slice(), *other)
+            switch_by_lookup(stack, memory, pairs.as_slice(), *other, *left)
         }
         Instr::GetField { field, .. } => {
             let method = stack.number();
@@ -367,11 +367,12 @@ fn switch_by_table<M: Memory>(
     low: i32,
     targets: &[u32],
     other: u32,
+    _left: u64,
 ) -> Result<Flow, NoMemory>
     requires row { HasIntOnTop stack.old.top.stack }
     requires frame { stack.old.top.kind ≡ InMethod }
-    ensures made { (left : ℕ) → MakesFlow (form_row (form.Table low targets.now other)) M.program
-        M.world M.follows _memory.old _memory.new stack.old (left + 1) result stack.new left }
+    ensures made { MakesFlow (form_row (form.Table low targets.now other)) M.program M.world
+        M.follows _memory.old _memory.new stack.old (_left + 1) result stack.new _left }
     ensures left { IfOk result (λ x. (next : ℕ) → IsLeft x stack.old.top.number next stack.new) }
 {
     let to = table_switch(stack, low, targets, other);
@@ -386,11 +387,12 @@ fn switch_by_lookup<M: Memory>(
     _memory: &mut M,
     pairs: &[(i32, u32)],
     other: u32,
+    _left: u64,
 ) -> Result<Flow, NoMemory>
     requires row { HasIntOnTop stack.old.top.stack }
     requires frame { stack.old.top.kind ≡ InMethod }
-    ensures made { (left : ℕ) → MakesFlow (form_row (form.Lookup pairs.now other)) M.program
-        M.world M.follows _memory.old _memory.new stack.old (left + 1) result stack.new left }
+    ensures made { MakesFlow (form_row (form.Lookup pairs.now other)) M.program M.world
+        M.follows _memory.old _memory.new stack.old (_left + 1) result stack.new _left }
     ensures left { IfOk result (λ x. (next : ℕ) → IsLeft x stack.old.top.number next stack.new) }
 {
     let to = lookup_switch(stack, pairs, other);
