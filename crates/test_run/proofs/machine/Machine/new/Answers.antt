@@ -17,7 +17,7 @@ invariant_of-result g c =
       memory_of = c.requires.program;
       limits = subst (λ (z : Program). HasStackLimits z) e c.stack_limits.ensures;
       stands = λ _. record {
-        after = subst (λ (z : List ℕ). IsAfter p z w) (sym c.new-2.ensures) (after_none p w c.requires.world);
+        after = subst (λ (z : List ℕ). IsAfter p z w) (sym c.new-3.ensures) (after_none p w c.requires.world);
         typed = subst (λ (z : World). TypedWorld p z) (sym c.requires.world) (c.reach_law.ensures.opened p c.program-program.ensures.typed);
       };
     }
