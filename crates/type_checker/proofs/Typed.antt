@@ -14,25 +14,19 @@ none_both (Some x) y e = cc
 both_none : (x y : Option CheckFault) → x ≡ None → y ≡ None → or_later x y ≡ None
 both_none x y e f = ap (λ a. or_later a y) e ∙ f
 
--- fields and methods that are served
+-- the first fault of items that are numbered one after the other
+module _ (X : Type 0) (f : ℕ → X → Option CheckFault) (first : ℕ → List X → Option CheckFault)
+    (done : (j : ℕ) → first j [] ≡ None) (more : (j : ℕ) (x : X) (xs : List X) → first j (x ∷ xs) ≡ or_later (f j x) (first (suc j) xs)) where
+  each_none : (j : ℕ) (xs : List X) → first j xs ≡ None → (k : ℕ) (x : X) → slice_get xs k ≡ Some x → f (j + k) x ≡ None
+  each_none j [] e k x s = cc
+  each_none j (y ∷ xs) e zero x s = let q : y ≡ x = cc in subst (λ z. f (j + 0) z ≡ None) q (ap (λ n. f n y) (add-zero j) ∙ (none_both _ _ (sym (more j y xs) ∙ e)).0)
+  each_none j (y ∷ xs) e (suc k) x s = let q : j + suc k ≡ suc j + k = omega arith in ap (λ n. f n x) q ∙ each_none (suc j) xs (none_both _ _ (sym (more j y xs) ∙ e)).1 k x s
 
-fields_each : (p : Program) (c : ClassRec) (ns : List ℕ) → fields_fault p c ns ≡ None → (k n : ℕ) → slice_get ns k ≡ Some n → unsupported_field c (field_at p n) ≡ None
-fields_each p c [] e k n s = cc
-fields_each p c (m ∷ ns) e zero n s = let q : m ≡ n = cc in subst (λ y. unsupported_field c (field_at p y) ≡ None) q (none_both _ _ e).0
-fields_each p c (m ∷ ns) e (suc k) n s = fields_each p c ns (none_both _ _ e).1 k n s
-
-fields_none : (p : Program) (c : ClassRec) (ns : List ℕ) → ((k n : ℕ) → slice_get ns k ≡ Some n → unsupported_field c (field_at p n) ≡ None) → fields_fault p c ns ≡ None
-fields_none p c [] h = refl
-fields_none p c (m ∷ ns) h = both_none _ _ (h 0 m refl) (fields_none p c ns (λ k n s. h (suc k) n s))
-
-members_each : (p : Program) (c : ClassRec) (ns : List ℕ) → members_fault p c ns ≡ None → (k n : ℕ) → slice_get ns k ≡ Some n → unsupported_method c (method_at p n) ≡ None
-members_each p c [] e k n s = cc
-members_each p c (m ∷ ns) e zero n s = let q : m ≡ n = cc in subst (λ y. unsupported_method c (method_at p y) ≡ None) q (none_both _ _ e).0
-members_each p c (m ∷ ns) e (suc k) n s = members_each p c ns (none_both _ _ e).1 k n s
-
-members_none : (p : Program) (c : ClassRec) (ns : List ℕ) → ((k n : ℕ) → slice_get ns k ≡ Some n → unsupported_method c (method_at p n) ≡ None) → members_fault p c ns ≡ None
-members_none p c [] h = refl
-members_none p c (m ∷ ns) h = both_none _ _ (h 0 m refl) (members_none p c ns (λ k n s. h (suc k) n s))
+  first_none : (j : ℕ) (xs : List X) → ((k : ℕ) (x : X) → slice_get xs k ≡ Some x → f (j + k) x ≡ None) → first j xs ≡ None
+  first_none j [] h = done j
+  first_none j (x ∷ xs) h =
+      let rest : first (suc j) xs ≡ None = first_none (suc j) xs (λ k y s. let q : suc j + k ≡ j + suc k = omega arith in ap (λ n. f n y) q ∙ h (suc k) y s) in
+      more j x xs ∙ both_none _ _ (ap (λ n. f n x) (sym (add-zero j)) ∙ h 0 x refl) rest
 
 -- the instructions of a method
 
@@ -40,21 +34,6 @@ no_breach : (name : List ℕ) (j pc : ℕ) (b : Option Breach) → fault_of name
 no_breach name j pc None e = refl
 no_breach name j pc (Some no_frame) e = cc
 no_breach name j pc (Some (rule r)) e = cc
-
-code_each : (p : Program) (name : List ℕ) (j : ℕ) (e : Environment) (b : ℕ) (xs : List Placed) → code_fault p name j e b xs ≡ None → (k : ℕ) (x : Placed) → slice_get xs k ≡ Some x → breach_at p e (b + k) x ≡ None
-code_each p name j e b [] h k x s = cc
-code_each p name j e b (y ∷ xs) h zero x s =
-    let q : y ≡ x = cc in
-    subst (λ z. breach_at p e (b + 0) z ≡ None) q (ap (λ n. breach_at p e n y) (add-zero b) ∙ no_breach name j y.pc _ (none_both _ _ h).0)
-code_each p name j e b (y ∷ xs) h (suc k) x s =
-    let q : b + suc k ≡ suc b + k = omega arith in
-    ap (λ n. breach_at p e n x) q ∙ code_each p name j e (suc b) xs (none_both _ _ h).1 k x s
-
-code_none : (p : Program) (name : List ℕ) (j : ℕ) (e : Environment) (b : ℕ) (xs : List Placed) → ((k : ℕ) (x : Placed) → slice_get xs k ≡ Some x → breach_at p e (b + k) x ≡ None) → code_fault p name j e b xs ≡ None
-code_none p name j e b [] h = refl
-code_none p name j e b (x ∷ xs) h = both_none _ _
-    (ap (fault_of name j x.pc) (ap (λ n. breach_at p e n x) (sym (add-zero b)) ∙ h 0 x refl))
-    (code_none p name j e (suc b) xs (λ k y s. let q : suc b + k ≡ b + suc k = omega arith in ap (λ n. breach_at p e n y) q ∙ h (suc k) y s))
 
 -- whether a method is typed, by its body and its frames
 
@@ -72,12 +51,17 @@ method_typed p name j m h = record {
   each = λ b gs k x e g s.
       let q : body_fault p name j m b (Some gs) ≡ None = subst (λ o. body_fault p name j m b o ≡ None) g (body_of p name j m h b e) in
       let z : 0 + k ≡ k = omega arith in
-      ap (λ n. breach_at p (environment_of p m b gs) n x) (sym z) ∙ code_each p name j (environment_of p m b gs) 0 b.code q k x s;
+      let a = environment_of p m b gs in
+      ap (λ n. breach_at p a n x) (sym z)
+      ∙ no_breach name j x.pc _ (each_none Placed (λ n y. fault_of name j y.pc (breach_at p a n y)) (code_fault p name j a) (λ _. refl) (λ _ _ _. refl) 0 b.code q k x s);
 }
 
 typed_body : (p : Program) (name : List ℕ) (j : ℕ) (m : MethodRec) (b : Body) (o : Option (List Frame)) → m.body ≡ Some b → given_frames p m ≡ o → is_some o ≡ true → IsTypedMethod p m → body_fault p name j m b o ≡ None
 typed_body p name j m b None e g s t = cc
-typed_body p name j m b (Some gs) e g s t = code_none p name j (environment_of p m b gs) 0 b.code (λ k x r. let z : 0 + k ≡ k = omega arith in ap (λ n. breach_at p (environment_of p m b gs) n x) z ∙ t.each b gs k x e g r)
+typed_body p name j m b (Some gs) e g s t =
+    let a = environment_of p m b gs in
+    first_none Placed (λ n x. fault_of name j x.pc (breach_at p a n x)) (code_fault p name j a) (λ _. refl) (λ _ _ _. refl) 0 b.code
+    (λ k x r. let z : 0 + k ≡ k = omega arith in ap (fault_of name j x.pc) (ap (λ n. breach_at p a n x) z ∙ t.each b gs k x e g r))
 
 typed_method : (p : Program) (name : List ℕ) (j : ℕ) (m : MethodRec) → IsTypedMethod p m → method_fault p name j m ≡ None
 unfolding method_fault
@@ -86,15 +70,6 @@ typed_method p name j m t = go m.body refl
     go : (o : Option Body) → m.body ≡ o → ◌≡◌ {A = Option CheckFault} (elim o [ None ↦ None | Some b ↦ body_fault p name j m b (given_frames p m) ]) None
     go None e = refl
     go (Some b) e = typed_body p name j m b (given_frames p m) e refl (t.frames b e) t
-
-methods_each : (p : Program) (name : List ℕ) (j : ℕ) (ns : List ℕ) → methods_fault p name j ns ≡ None → (k n : ℕ) → slice_get ns k ≡ Some n → IsTypedMethod p (method_at p n)
-methods_each p name j [] e k n s = cc
-methods_each p name j (m ∷ ns) e zero n s = let q : m ≡ n = cc in subst (λ y. IsTypedMethod p (method_at p y)) q (method_typed p name j (method_at p m) (none_both _ _ e).0)
-methods_each p name j (m ∷ ns) e (suc k) n s = methods_each p name (suc j) ns (none_both _ _ e).1 k n s
-
-methods_none : (p : Program) (name : List ℕ) (j : ℕ) (ns : List ℕ) → ((k n : ℕ) → slice_get ns k ≡ Some n → IsTypedMethod p (method_at p n)) → methods_fault p name j ns ≡ None
-methods_none p name j [] h = refl
-methods_none p name j (m ∷ ns) h = both_none _ _ (typed_method p name j (method_at p m) (h 0 m refl)) (methods_none p name (suc j) ns (λ k n s. h (suc k) n s))
 
 -- classes
 
@@ -108,30 +83,34 @@ unfolding class_fault
 class_typed p c e =
     let a = none_both _ _ e in
     let b = none_both _ _ a.1 in
-    record { fields = fields_each p c c.fields a.0; members = members_each p c c.methods b.0; methods = methods_each p c.name 1 c.methods b.1 }
+    record {
+      fields = each_none ℕ (λ _ n. unsupported_field c (field_at p n)) (λ _ ns. fields_fault p c ns) (λ _. refl) (λ _ _ _. refl) 0 c.fields a.0;
+      members = each_none ℕ (λ _ n. unsupported_method c (method_at p n)) (λ _ ns. members_fault p c ns) (λ _. refl) (λ _ _ _. refl) 0 c.methods b.0;
+      methods = λ k n s.
+          method_typed p c.name (1 + k) (method_at p n)
+          (each_none ℕ (λ j i. method_fault p c.name j (method_at p i)) (methods_fault p c.name) (λ _. refl) (λ _ _ _. refl) 1 c.methods b.1 k n s);
+    }
 
 typed_class : (p : Program) (c : ClassRec) → IsTypedClass p c → class_fault p c ≡ None
 unfolding class_fault
-typed_class p c t = both_none _ _ (fields_none p c c.fields t.fields) (both_none _ _ (members_none p c c.methods t.members) (methods_none p c.name 1 c.methods t.methods))
-
-classes_each : (p : Program) (cs : List ClassRec) → classes_fault p cs ≡ None → (i : ℕ) (c : ClassRec) → slice_get cs i ≡ Some c → IsTypedClass p c
-classes_each p [] e i c s = cc
-classes_each p (d ∷ cs) e zero c s = let q : d ≡ c = cc in subst (λ y. IsTypedClass p y) q (class_typed p d (none_both _ _ e).0)
-classes_each p (d ∷ cs) e (suc i) c s = classes_each p cs (none_both _ _ e).1 i c s
-
-classes_none : (p : Program) (cs : List ClassRec) → ((i : ℕ) (c : ClassRec) → slice_get cs i ≡ Some c → IsTypedClass p c) → classes_fault p cs ≡ None
-classes_none p [] h = refl
-classes_none p (d ∷ cs) h = both_none _ _ (typed_class p d (h 0 d refl)) (classes_none p cs (λ i c s. h (suc i) c s))
+typed_class p c t = both_none _ _
+    (first_none ℕ (λ _ n. unsupported_field c (field_at p n)) (λ _ ns. fields_fault p c ns) (λ _. refl) (λ _ _ _. refl) 0 c.fields t.fields)
+    (both_none _ _
+    (first_none ℕ (λ _ n. unsupported_method c (method_at p n)) (λ _ ns. members_fault p c ns) (λ _. refl) (λ _ _ _. refl) 0 c.methods t.members)
+    (first_none ℕ (λ j n. method_fault p c.name j (method_at p n)) (methods_fault p c.name) (λ _. refl) (λ _ _ _. refl) 1 c.methods
+    (λ k n s. typed_method p c.name (1 + k) (method_at p n) (t.methods k n s))))
 
 pub typed_none : (p : Program) → Linked p → check_fault p ≡ None → IsTyped p
 unfolding check_fault
 typed_none p l e =
-    let h = classes_each p (given_classes p) e in
+    let none = each_none ClassRec (λ _ c. class_fault p c) (λ _ cs. classes_fault p cs) (λ _. refl) (λ _ _ _. refl) 0 (given_classes p) e in
+    let h : (i : ℕ) (c : ClassRec) → slice_get (given_classes p) i ≡ Some c → IsTypedClass p c = λ i c s. class_typed p c (none i c s) in
     record { linked = l; fields = λ i k n c s. (h i c s).fields k n; members = λ i k n c s. (h i c s).members k n; methods = λ i k n c s. (h i c s).methods k n }
 
 pub typed_no_fault : (p : Program) → IsTyped p → check_fault p ≡ None
 unfolding check_fault
-typed_no_fault p t = classes_none p (given_classes p) (λ i c s. record { fields = λ k n. t.fields i k n c s; members = λ k n. t.members i k n c s; methods = λ k n. t.methods i k n c s })
+typed_no_fault p t = first_none ClassRec (λ _ c. class_fault p c) (λ _ cs. classes_fault p cs) (λ _. refl) (λ _ _ _. refl) 0 (given_classes p)
+    (λ i c s. typed_class p c (record { fields = λ k n. t.fields i k n c s; members = λ k n. t.members i k n c s; methods = λ k n. t.methods i k n c s }))
 
 pub fault_untyped : (p : Program) (x : CheckFault) → check_fault p ≡ Some x → IsTyped p → ⊥
 fault_untyped p x e t = let q = typed_no_fault p t in cc
