@@ -11,9 +11,7 @@ ghost use Rattle.type_frames.specs.Typing.{IsTyped, all_frames, check_fault, cla
 use crate::maps::Mapped;
 use et_base::letters::{ARRAY, DOUBLE, FLOAT, VOID};
 use et_base::{Items, NoMemory, Units};
-use jvm_model::{
-    BUILTIN_COUNT, CLINIT, ClassRec, FieldRec, MethodRec, Program, parameters, return_type,
-};
+use jvm_model::{BUILTIN_COUNT, CLINIT, ClassRec, MethodRec, Program, parameters, return_type};
 use std::alloc::Global;
 use type_frames::{CheckFault, Checked, Frame};
 
@@ -59,19 +57,6 @@ fn unsupported(alloc: Global, class: &[u16], member: &[u16]) -> Result<CheckFaul
     })
 }
 
-fn unsupported_field(
-    alloc: Global,
-    class: &ClassRec,
-    field: &FieldRec,
-) -> Result<Option<CheckFault>, NoMemory>
-    ensures { IfOk result (λ o. o ≡ unsupported_field class.now field.now) }
-{
-    if is_float(field.descriptor.as_slice()) {
-        return Ok(Some(unsupported(alloc, class.name.as_slice(), field.name.as_slice())?));
-    }
-    Ok(None)
-}
-
 // An interface method with code, other than `<clinit>`, that is private or of a class file of version 50 or 51.
 fn is_unserved(class: &ClassRec, method: &MethodRec) -> bool
     ensures { result ≡ is_unserved class.now method.now }
@@ -113,10 +98,13 @@ fn field_fault(
     ensures { IfOk result (λ o.
         o ≡ unsupported_field class.now (classes.field_at program.now field)) }
 {
-    match program.field(field) {
-        None => Ok(None),
-        Some(x) => unsupported_field(alloc, class, x),
+    let Some(field) = program.field(field) else {
+        return Ok(None);
+    };
+    if is_float(field.descriptor.as_slice()) {
+        return Ok(Some(unsupported(alloc, class.name.as_slice(), field.name.as_slice())?));
     }
+    Ok(None)
 }
 
 #[tactic(auto, unfolding(jvm_model::specs::Descriptors::parameters, jvm_model::specs::Descriptors::return_type))]
