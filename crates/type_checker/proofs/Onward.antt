@@ -50,6 +50,6 @@ onward p name j e k f g s lt h =
     )
 
 pub turned_by : (p : Program) (e : Environment) (k : ℕ) (x : Placed) (f : Slots) (s : StackEffect) → s ≡ sides p e x.pc f x.form → (t : Turned) → IsJudged p e k x f s t → IsTurned p e k x (Some f) t
-turned_by p e k x f s q way.NoFrame h = absurd h
-turned_by p e k x f s q (way.Broken r) h = ap breach_of (subst (λ y. broken p e k x f y ≡ Some (number_of r)) q h)
+turned_by p e k x f s q (way.Broken None) h = absurd h
+turned_by p e k x f s q (way.Broken (Some r)) h = ap breach_of (subst (λ y. broken p e k x f y ≡ Some (number_of r)) q h)
 turned_by p e k x f s q (way.On g) h = (ap breach_of (subst (λ y. broken p e k x f y ≡ None) q h.0), h.1 ∙ ap (passed f) q)

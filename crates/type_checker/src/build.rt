@@ -5,14 +5,14 @@ ghost use Rattle.jvm_model.specs.declared.values.Base.TheVariants as jvm;
 ghost use Rattle.type_frames.specs.declared.vtype.VType.TheVariants as types;
 ghost use Rattle.type_frames.specs.declared.stack_effect.OperandConstraint.TheVariants as wants;
 ghost use Rattle.type_frames.specs.{Frames.same, Descriptors.base_text, Descriptors.kind_name, Descriptors.types_of};
-ghost use Rattle.type_frames.specs.StackEffect.{argument_needs, int_need, is_raw, int_type, long_need, long_type, needs_of, number_need, number_type, objects_text, on_stack, place_of, plain, result_types, two};
+ghost use Rattle.type_frames.specs.StackEffect.{argument_needs, int_need, is_raw, int_type, long_need, long_type, needs_of, number_need, number_type, objects_text, on_stack, place_of, plain, two};
 
 use crate::frame_type::FrameType;
 use et_base::letters::{
     ARRAY, BOOLEAN, BYTE, CHAR, CLASS, DOUBLE, FLOAT, INT, LONG, SEMICOLON, SHORT, VOID,
 };
 use et_base::{Items, NoMemory, Units};
-use jvm_model::{Base, Kind, OBJECT, Program, parameters, return_type};
+use jvm_model::{Base, Kind, OBJECT, Program, parameters};
 use std::alloc::Global;
 use type_frames::{
     OperandConstraint, StackEffect, Substitution, VType, class_name, copy_type, push_types, same,
@@ -161,6 +161,24 @@ pub(crate) fn push_moved(
     Ok(())
 }
 
+/// The need of an object of the class of this name, or of the array of this descriptor.
+pub(crate) fn object_need(alloc: Global, name: &[u16]) -> Result<OperandConstraint, NoMemory>
+    ensures { IfOk result (λ n. n ≡ wants.Fits (types.Object name.now)) }
+{
+    Ok(OperandConstraint::Fits(VType::Object(Items::from_slice(alloc, name)?)))
+}
+
+/// Appends the need of such an object.
+pub(crate) fn push_object(
+    alloc: Global,
+    needs: &mut Items<OperandConstraint>,
+    name: &[u16],
+) -> Result<(), NoMemory>
+    ensures { OnOk result (needs.new ≡ needs.old ++ wants.Fits (types.Object name.now) ∷ []) }
+{
+    needs.push(object_need(alloc, name)?)
+}
+
 /// Appends the needs of a value of a type's text, top first.
 pub(crate) fn push_needs(
     alloc: Global,
@@ -176,13 +194,10 @@ pub(crate) fn push_needs(
         return push_long(needs);
     }
     if *u == CLASS {
-        return needs.push(OperandConstraint::Fits(VType::Object(Items::from_slice(
-            alloc,
-            class_name(rest),
-        )?)));
+        return push_object(alloc, needs, class_name(rest));
     }
     if *u == ARRAY {
-        return needs.push(OperandConstraint::Fits(VType::Object(Items::from_slice(alloc, text)?)));
+        return push_object(alloc, needs, text);
     }
     if *u == VOID {
         return Ok(());
@@ -224,29 +239,15 @@ pub(crate) fn push_argument_needs(
     push_all_needs(alloc, needs, texts.as_slice())
 }
 
-/// Types as they stand on the stack, top first.
-pub(crate) fn on_stack(alloc: Global, types: &[VType]) -> Result<Items<VType>, NoMemory>
-    ensures { IfOk result (λ ts. ts ≡ on_stack types.now) }
-{
-    let mut places = spread(alloc, types)?.into_vec();
-    places.reverse();
-    Ok(Items::from_vec(places))
-}
-
-/// The places of the type that a text says.
+/// The places of the type that a text says, as they stand on the stack, top first.
 pub(crate) fn text_types(alloc: Global, text: &[u16]) -> Result<Items<VType>, NoMemory>
     ensures { IfOk result (λ ts. ts ≡ on_stack (types_of text.now)) }
 {
     let mut types = Items::new(alloc);
     push_types(alloc, &mut types, text)?;
-    on_stack(alloc, types.as_slice())
-}
-
-/// The places of what a method of this descriptor returns.
-pub(crate) fn result_types(alloc: Global, descriptor: &[u16]) -> Result<Items<VType>, NoMemory>
-    ensures { IfOk result (λ ts. ts ≡ result_types descriptor.now) }
-{
-    text_types(alloc, return_type(descriptor))
+    let mut places = spread(alloc, types.as_slice())?.into_vec();
+    places.reverse();
+    Ok(Items::from_vec(places))
 }
 
 fn push_brackets(text: &mut Units, dims: u8) -> Result<(), NoMemory>

@@ -19,12 +19,11 @@ use jvm_model::{Placed, Program};
 use std::alloc::Global;
 use type_frames::{CheckFault, StackEffect};
 
-/// How the walk over a method goes on after an instruction: there is no frame before it, this is the lowest rule that it
-/// breaks, or this frame goes on, if control does.
+/// How the walk over a method goes on after an instruction: this is the lowest rule that it breaks, none where there is no
+/// frame before it, or this frame goes on, if control does.
 #[derive(Drop)]
 pub(crate) enum Turned {
-    NoFrame,
-    Broken { rule: Rule },
+    Broken { rule: Option<Rule> },
     On { next: Option<FrameType> },
 }
 
@@ -86,7 +85,7 @@ fn broken(
         (Rule::Calls, effect.calls_well),
     ];
     match first_broken(&rules) {
-        Some(rule) => Ok(Turned::Broken { rule }),
+        Some(rule) => Ok(Turned::Broken { rule: Some(rule) }),
         None if effect.falls => Ok(Turned::On { next: Some(next) }),
         None => Ok(Turned::On { next: None }),
     }
@@ -126,10 +125,10 @@ fn turned_at(
         return judge(alloc, program, context, index, placed, frame);
     }
     if is_target(context, placed.pc) {
-        return Ok(Turned::NoFrame);
+        return Ok(Turned::Broken { rule: None });
     }
     match running {
-        None => Ok(Turned::NoFrame),
+        None => Ok(Turned::Broken { rule: None }),
         Some(frame) => judge(alloc, program, context, index, placed, frame),
     }
 }
@@ -172,11 +171,8 @@ fn named_step(
         (taken_at context.now placed.now.pc running) t) }
 {
     match turned_at(alloc, program, context, index, placed, running)? {
-        Turned::NoFrame => Ok(Step::Faulty {
-            fault: fault(alloc, name, method, placed.pc, None)?,
-        }),
         Turned::Broken { rule } => Ok(Step::Faulty {
-            fault: fault(alloc, name, method, placed.pc, Some(rule))?,
+            fault: fault(alloc, name, method, placed.pc, rule)?,
         }),
         Turned::On { next } => Ok(Step::Onward { next }),
     }

@@ -7,17 +7,17 @@ ghost use Rattle.jvm_model.specs.Classes.{class_at, field_at, method_at};
 ghost use Rattle.type_frames.specs.declared.vtype.VType.TheVariants as types;
 ghost use Rattle.type_frames.specs.declared.stack_effect.OperandConstraint.TheVariants as wants;
 ghost use Rattle.type_frames.specs.declared.stack_effect.Substitution.TheVariants as turns;
-ghost use Rattle.type_frames.specs.StackEffect.{argument_needs, array_need, call_sides, element_type, init_sides, int_need, int_type, is_that, is_raw, is_start, is_unset, leaving, loaded, needs_of, new_sides, object_of, on_stack, owner_need, place_of, plain, put_field_sides, ref_sides, refs_sides, return_sides, return_typed, returns, special_need, special_sides, started, stored};
+ghost use Rattle.type_frames.specs.StackEffect.{argument_needs, array_need, call_sides, element_type, init_sides, int_need, int_type, is_that, is_raw, is_start, leaving, loaded, needs_of, new_sides, object_of, on_stack, owner_need, place_of, plain, put_field_sides, ref_sides, refs_sides, return_sides, return_typed, returns, special_need, special_sides, started, stored};
 
 use crate::build::{
-    is_raw_at, kind_name, objects_text, place_of, push_argument_needs, push_int, push_long,
-    push_long_type, push_needs, result_types, text_types,
+    is_raw_at, kind_name, object_need, objects_text, place_of, push_argument_needs, push_int,
+    push_long, push_long_type, push_needs, push_object, text_types,
 };
 use crate::context::{Context, made_at};
 use crate::frame_type::FrameType;
 use et_base::letters::{ARRAY, CHAR, CLASS, INT, LONG, SHORT};
 use et_base::{Items, NoMemory};
-use jvm_model::{CLINIT, Cell, INIT, Kind, OBJECT, Program, Sort, THROWABLE};
+use jvm_model::{CLINIT, Cell, INIT, Kind, OBJECT, Program, Sort, THROWABLE, return_type};
 use std::alloc::Global;
 use type_frames::{
     OperandConstraint, StackEffect, Substitution, VType, class_name, copy_type, object_assignable,
@@ -39,14 +39,6 @@ pub(crate) fn references(effect: &mut StackEffect, frame: &FrameType) -> Result<
     effect.starts_well = !is_raw_at(frame, 0) && !is_raw_at(frame, 1);
     effect.takes.push(OperandConstraint::Ref)?;
     effect.takes.push(OperandConstraint::Ref)
-}
-
-pub(crate) fn test_two(effect: &mut StackEffect) -> Result<(), NoMemory>
-    requires { effect.old ≡ plain [] [] }
-    ensures { OnOk result (effect.new ≡ plain (int_need ++ int_need) []) }
-{
-    push_int(&mut effect.takes)?;
-    push_int(&mut effect.takes)
 }
 
 /// A jump by a table.
@@ -89,10 +81,7 @@ fn return_typed(
         ([VType::Int], Some(Sort::Int)) => push_int(&mut effect.takes),
         ([VType::Long], Some(Sort::Long)) => push_long(&mut effect.takes),
         ([VType::Object(name)], Some(Sort::Ref)) => {
-            let name = Items::from_slice(alloc, name.as_slice())?;
-            effect
-                .takes
-                .push(OperandConstraint::Fits(VType::Object(name)))
+            push_object(alloc, &mut effect.takes, name.as_slice())
         }
         _ => {
             effect.returns_well = false;
@@ -134,13 +123,6 @@ pub(crate) fn get_static(
     Ok(())
 }
 
-// The need of an object of a class.
-fn object_need(alloc: Global, program: &Program, class: u32) -> Result<OperandConstraint, NoMemory>
-    ensures { IfOk result (λ n. n ≡ wants.Fits (object_of program.now class)) }
-{
-    Ok(OperandConstraint::Fits(object_of(alloc, program, class)?))
-}
-
 pub(crate) fn get_field(
     alloc: Global,
     effect: &mut StackEffect,
@@ -153,7 +135,7 @@ pub(crate) fn get_field(
         plain (wants.Fits (object_of program.now named) ∷ [])
         (on_stack (types_of (field_at program.now field).descriptor))) }
 {
-    effect.takes.push(object_need(alloc, program, named)?)?;
+    push_object(alloc, &mut effect.takes, program.class_name(named))?;
     effect.gives = text_types(alloc, program.field_descriptor(field))?;
     Ok(())
 }
@@ -175,7 +157,7 @@ fn owner_need(
     {
         return Ok(OperandConstraint::Fits(VType::UninitThis));
     }
-    object_need(alloc, program, named)
+    object_need(alloc, program.class_name(named))
 }
 
 pub(crate) fn put_field(
@@ -210,7 +192,7 @@ pub(crate) fn call(
 {
     let descriptor = program.method_descriptor(method);
     push_argument_needs(alloc, &mut effect.takes, descriptor)?;
-    effect.gives = result_types(alloc, descriptor)?;
+    effect.gives = text_types(alloc, return_type(descriptor))?;
     let name = program.method_name(method);
     effect.calls_well = !(name == CLINIT.as_slice() || name == INIT.as_slice());
     Ok(())
@@ -244,7 +226,7 @@ pub(crate) fn call_interface(
         call_sides (method_at program.now method) (wants.Fits (object_of program.now named) ∷ [])) }
 {
     call(alloc, effect, program, method)?;
-    effect.takes.push(object_need(alloc, program, named)?)
+    push_object(alloc, &mut effect.takes, program.class_name(named))
 }
 
 // The receiver of invokespecial.
@@ -258,7 +240,7 @@ fn special_need(
 {
     let other = VType::Object(kind_name(alloc, program, named)?);
     if object_assignable(program, program.class_name(context.class), &other) {
-        return object_need(alloc, program, context.class);
+        return object_need(alloc, program.class_name(context.class));
     }
     Ok(OperandConstraint::Never)
 }
@@ -339,7 +321,7 @@ fn init(
     push_argument_needs(alloc, &mut effect.takes, descriptor)?;
     let t = place_of(alloc, frame, effect.takes.len())?;
     effect.takes.push(OperandConstraint::Raw)?;
-    effect.gives = result_types(alloc, descriptor)?;
+    effect.gives = text_types(alloc, return_type(descriptor))?;
     start(
         alloc,
         effect,
@@ -372,13 +354,6 @@ pub(crate) fn call_special(
         .push(special_need(alloc, program, context, named)?)
 }
 
-// No place of the stack is what the `new` at this place made before.
-fn is_unset(stack: &[VType], pc: u32) -> bool
-    ensures { result ≡ is_unset (reverse stack.now) pc }
-{
-    !holds_made(stack, pc)
-}
-
 fn is_made(vtype: &VType, pc: u32) -> bool
     ensures { result ≡ same vtype.now (types.Uninit pc) }
 {
@@ -388,6 +363,7 @@ fn is_made(vtype: &VType, pc: u32) -> bool
     }
 }
 
+// Whether a place of the stack is what the `new` at this place made before.
 fn holds_made(stack: &[VType], pc: u32) -> bool
     ensures { result ≡ list_any (λ t. same t (types.Uninit pc)) (reverse stack.now) }
 {
@@ -402,7 +378,7 @@ pub(crate) fn create(effect: &mut StackEffect, frame: &FrameType, pc: u32) -> Re
         from: VType::Uninit { pc },
         to: VType::Top,
     };
-    effect.starts_well = is_unset(&frame.stack, pc);
+    effect.starts_well = !holds_made(&frame.stack, pc);
     effect.gives.push(VType::Uninit { pc })
 }
 
@@ -411,24 +387,12 @@ fn array_need(alloc: Global, program: &Program, of: &Cell) -> Result<OperandCons
     ensures { IfOk result (λ n. n ≡ array_need program.now of.now) }
 {
     match of {
-        Cell::Int => Ok(OperandConstraint::Fits(VType::Object(Items::from_slice(
-            alloc,
-            &[ARRAY, INT],
-        )?))),
-        Cell::Long => Ok(OperandConstraint::Fits(VType::Object(Items::from_slice(
-            alloc,
-            &[ARRAY, LONG],
-        )?))),
+        Cell::Int => object_need(alloc, &[ARRAY, INT]),
+        Cell::Long => object_need(alloc, &[ARRAY, LONG]),
         Cell::Ref => Ok(OperandConstraint::Fits(VType::Object(objects_text(alloc, program)?))),
         Cell::Byte => Ok(OperandConstraint::Small),
-        Cell::Char => Ok(OperandConstraint::Fits(VType::Object(Items::from_slice(
-            alloc,
-            &[ARRAY, CHAR],
-        )?))),
-        Cell::Short => Ok(OperandConstraint::Fits(VType::Object(Items::from_slice(
-            alloc,
-            &[ARRAY, SHORT],
-        )?))),
+        Cell::Char => object_need(alloc, &[ARRAY, CHAR]),
+        Cell::Short => object_need(alloc, &[ARRAY, SHORT]),
     }
 }
 
@@ -486,7 +450,7 @@ fn push_stored(
 {
     match of {
         Cell::Long => push_long(needs),
-        Cell::Ref => needs.push(object_need(alloc, program, OBJECT)?),
+        Cell::Ref => push_object(alloc, needs, program.class_name(OBJECT)),
         Cell::Int | Cell::Byte | Cell::Char | Cell::Short => push_int(needs),
     }
 }
@@ -551,7 +515,8 @@ pub(crate) fn new_array(
     push_kind(alloc, &mut effect.gives, program, kind)
 }
 
-fn push_ints(needs: &mut Items<OperandConstraint>, count: u8) -> Result<(), NoMemory>
+/// Appends the needs of so many ints.
+pub(crate) fn push_ints(needs: &mut Items<OperandConstraint>, count: u8) -> Result<(), NoMemory>
     ensures { OnOk result (needs.new ≡ needs.old ++ replicate count (wants.Fits types.Int)) }
 {
     for done in 0..count {
@@ -594,7 +559,7 @@ pub(crate) fn throw(
         leaving (plain (wants.Fits (object_of program.now 7) ∷ []) [])) }
 {
     effect.falls = false;
-    effect.takes.push(object_need(alloc, program, THROWABLE)?)
+    push_object(alloc, &mut effect.takes, program.class_name(THROWABLE))
 }
 
 pub(crate) fn cast(
@@ -608,7 +573,7 @@ pub(crate) fn cast(
         plain (wants.Fits (object_of program.now 0) ∷ [])
         (types.Object (kind_name program.now kind.now) ∷ [])) }
 {
-    effect.takes.push(object_need(alloc, program, OBJECT)?)?;
+    push_object(alloc, &mut effect.takes, program.class_name(OBJECT))?;
     push_kind(alloc, &mut effect.gives, program, kind)
 }
 
@@ -621,6 +586,6 @@ pub(crate) fn instance_of(
     ensures { OnOk result (effect.new ≡
         plain (wants.Fits (object_of program.now 0) ∷ []) int_type) }
 {
-    effect.takes.push(object_need(alloc, program, OBJECT)?)?;
+    push_object(alloc, &mut effect.takes, program.class_name(OBJECT))?;
     effect.gives.push(VType::Int)
 }

@@ -1,9 +1,10 @@
 //! The sides of moves of the stack, constants, arithmetic, loads and stores.
 
-ghost use Rattle.std.specs.Prelude.{◌≡◌, ◌∷◌, ◌++◌, [], IfOk, OnOk, slice_index_or, ◌+◌};
+ghost use Rattle.std.specs.Prelude.{◌≡◌, ◌∷◌, ◌++◌, [], IfOk, OnOk, map, slice_index_or, ◌+◌};
+ghost use Rattle.type_checker.specs.Steps.{with_taken};
 ghost use Rattle.type_frames.specs.declared.vtype.VType.TheVariants as types;
 ghost use Rattle.type_frames.specs.declared.stack_effect.OperandConstraint.TheVariants as wants;
-ghost use Rattle.type_frames.specs.StackEffect.{const_type, convert_sides, dup2_sides, dup2_x1_sides, dup2_x2_sides, dup_sides, dup_x1_sides, dup_x2_sides, inc_sides, int_type, load_sides, long_need, long_type, number_need, number_type, place_of, plain, reading, second_need, setting, store_sides, swap_sides, two};
+ghost use Rattle.type_frames.specs.StackEffect.{const_type, convert_sides, inc_sides, int_type, load_sides, long_need, long_type, number_need, number_type, place_of, plain, reading, second_need, setting, store_sides};
 
 use crate::build::{
     is_half, place_of, push_int, push_long, push_long_type, push_moved, push_number,
@@ -13,100 +14,48 @@ use crate::frame_type::FrameType;
 use et_base::{Items, NoMemory};
 use jvm_model::{Conv, Op, Program, STRING, Sort, Value};
 use std::alloc::Global;
+use type_frames::OperandConstraint::Fits;
 use type_frames::{
     LocalUpdate, OperandConstraint, Reading, StackEffect, VType, copy_type, object_of,
 };
 
-pub(crate) fn dup(
-    alloc: Global,
-    effect: &mut StackEffect,
-    frame: &FrameType,
-) -> Result<(), NoMemory>
-    requires { effect.old ≡ plain [] [] }
-    ensures { OnOk result (effect.new ≡ dup_sides (place_of frame.now 0)) }
-{
-    effect.takes.push(OperandConstraint::One)?;
-    push_moved(alloc, &mut effect.gives, frame, &[0, 0])
+/// What a move takes off the stack: one place, or two from this one on, which are a long or two values of one place each.
+pub(crate) enum Taken {
+    Single,
+    Pair(usize),
 }
 
-pub(crate) fn dup_x1(
+fn push_taken(
+    needs: &mut Items<OperandConstraint>,
+    frame: &FrameType,
+    taken: &[Taken],
+) -> Result<(), NoMemory>
+    ensures { OnOk result (needs.new ≡ with_taken frame.now needs.old taken.now) }
+{
+    let Some((first, rest)) = taken.split_first() else {
+        return Ok(());
+    };
+    match first {
+        Taken::Single => needs.push(OperandConstraint::One)?,
+        Taken::Pair(place) => push_two(needs, is_half(frame, *place))?,
+    }
+    push_taken(needs, frame, rest)
+}
+
+/// A move of the stack: takes these places off, and gives the types of those of this order, top first.
+pub(crate) fn shuffle(
     alloc: Global,
     effect: &mut StackEffect,
     frame: &FrameType,
+    taken: &[Taken],
+    order: &[usize],
 ) -> Result<(), NoMemory>
     requires { effect.old ≡ plain [] [] }
     ensures { OnOk result (effect.new ≡
-        dup_x1_sides (place_of frame.now 0) (place_of frame.now 1)) }
+        plain (with_taken frame.now [] taken.now) (map (λ n. place_of frame.now n) order.now)) }
 {
-    push_two(&mut effect.takes, false)?;
-    push_moved(alloc, &mut effect.gives, frame, &[0, 1, 0])
-}
-
-pub(crate) fn dup_x2(
-    alloc: Global,
-    effect: &mut StackEffect,
-    frame: &FrameType,
-) -> Result<(), NoMemory>
-    requires { effect.old ≡ plain [] [] }
-    ensures { OnOk result (effect.new ≡
-        dup_x2_sides (place_of frame.now 0) (place_of frame.now 1) (place_of frame.now 2)) }
-{
-    effect.takes.push(OperandConstraint::One)?;
-    push_two(&mut effect.takes, is_half(frame, 1))?;
-    push_moved(alloc, &mut effect.gives, frame, &[0, 1, 2, 0])
-}
-
-pub(crate) fn dup2(
-    alloc: Global,
-    effect: &mut StackEffect,
-    frame: &FrameType,
-) -> Result<(), NoMemory>
-    requires { effect.old ≡ plain [] [] }
-    ensures { OnOk result (effect.new ≡ dup2_sides (place_of frame.now 0) (place_of frame.now 1)) }
-{
-    push_two(&mut effect.takes, is_half(frame, 0))?;
-    push_moved(alloc, &mut effect.gives, frame, &[0, 1, 0, 1])
-}
-
-pub(crate) fn dup2_x1(
-    alloc: Global,
-    effect: &mut StackEffect,
-    frame: &FrameType,
-) -> Result<(), NoMemory>
-    requires { effect.old ≡ plain [] [] }
-    ensures { OnOk result (effect.new ≡
-        dup2_x1_sides (place_of frame.now 0) (place_of frame.now 1) (place_of frame.now 2)) }
-{
-    push_two(&mut effect.takes, is_half(frame, 0))?;
-    effect.takes.push(OperandConstraint::One)?;
-    push_moved(alloc, &mut effect.gives, frame, &[0, 1, 2, 0, 1])
-}
-
-pub(crate) fn dup2_x2(
-    alloc: Global,
-    effect: &mut StackEffect,
-    frame: &FrameType,
-) -> Result<(), NoMemory>
-    requires { effect.old ≡ plain [] [] }
-    ensures { OnOk result (effect.new ≡
-        dup2_x2_sides (place_of frame.now 0) (place_of frame.now 1)
-        (place_of frame.now 2) (place_of frame.now 3)) }
-{
-    push_two(&mut effect.takes, is_half(frame, 0))?;
-    push_two(&mut effect.takes, is_half(frame, 2))?;
-    push_moved(alloc, &mut effect.gives, frame, &[0, 1, 2, 3, 0, 1])
-}
-
-pub(crate) fn swap(
-    alloc: Global,
-    effect: &mut StackEffect,
-    frame: &FrameType,
-) -> Result<(), NoMemory>
-    requires { effect.old ≡ plain [] [] }
-    ensures { OnOk result (effect.new ≡ swap_sides (place_of frame.now 0) (place_of frame.now 1)) }
-{
-    push_two(&mut effect.takes, false)?;
-    push_moved(alloc, &mut effect.gives, frame, &[1, 0])
+    push_taken(&mut effect.takes, frame, taken)?;
+    push_moved(alloc, &mut effect.gives, frame, order)
 }
 
 pub(crate) fn push_constant(
@@ -207,11 +156,7 @@ fn load_long(effect: &mut StackEffect, local: u16) -> Result<(), NoMemory>
         { reads = reading local (wants.Fits types.Long) ∷ reading (local + 1) wants.Half ∷ [] }) }
 {
     push_long_type(&mut effect.gives)?;
-    read(
-        &mut effect.reads,
-        local,
-        OperandConstraint::Fits(VType::Long),
-    )?;
+    read(&mut effect.reads, local, Fits(VType::Long))?;
     effect.reads.push(Reading {
         local: u32::from(local) + 1,
         need: OperandConstraint::Half,
@@ -231,11 +176,7 @@ pub(crate) fn load(
     match of {
         Sort::Int => {
             effect.gives.push(VType::Int)?;
-            read(
-                &mut effect.reads,
-                local,
-                OperandConstraint::Fits(VType::Int),
-            )
+            read(&mut effect.reads, local, Fits(VType::Int))
         }
         Sort::Long => load_long(effect, local),
         Sort::Ref => {

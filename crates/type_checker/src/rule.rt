@@ -5,7 +5,7 @@ ghost use Rattle.type_checker.specs.Steps.{number_of};
 
 /// What the check asks of each instruction, in the order in which a broken rule is named (JVMS 4.10.1). `StackMap` comes
 /// before all else of a method.
-#[derive(Clone, Copy, Debug, PartialEq, Eq)]
+#[derive(Clone, Copy)]
 pub(crate) enum Rule {
     /// The stack has the places that are taken, and stays within `max_stack` (JVMS 4.10.1.4).
     StackRoom,

@@ -255,19 +255,13 @@ fn takes_caught(program: &Program, frame: &FrameType, handler: &Handler, given: 
         ) && (!frame.flag || given.flag))
 }
 
-fn caught(handler: &Handler) -> u32
-    ensures { result ≡ rules.caught handler.now }
-{
-    match handler.catches {
-        None => THROWABLE,
-        Some(class) => class,
-    }
-}
-
 fn caught_name<'a>(program: &'a Program, handler: &Handler) -> &'a [u16]
     ensures { result.now ≡ name_of program.now (rules.caught handler.now) }
 {
-    program.class_name(caught(handler))
+    match handler.catches {
+        None => program.class_name(THROWABLE),
+        Some(class) => program.class_name(class),
+    }
 }
 
 fn handles(

@@ -6,10 +6,12 @@ ghost use Rattle.type_frames.specs.StackEffect.{plain, sides};
 use crate::build::{is_half, nothing, push_int, push_needs, push_two};
 use crate::context::Context;
 use crate::frame_type::FrameType;
+use crate::moves::Taken::{Pair, Single};
 use crate::{members, moves};
 use et_base::NoMemory;
 use jvm_model::{Instr, Program};
 use std::alloc::Global;
+use type_frames::OperandConstraint::Fits;
 use type_frames::{OperandConstraint, StackEffect, VType};
 
 /// The sides of an instruction at a place, with the frame before it.
@@ -50,24 +52,26 @@ fn add_sides(
         Instr::ArrayStore { of } => members::array_store(alloc, effect, program, of),
         Instr::Pop => effect.takes.push(OperandConstraint::One),
         Instr::Pop2 => push_two(&mut effect.takes, is_half(frame, 0)),
-        Instr::Dup => moves::dup(alloc, effect, frame),
-        Instr::DupX1 => moves::dup_x1(alloc, effect, frame),
-        Instr::DupX2 => moves::dup_x2(alloc, effect, frame),
-        Instr::Dup2 => moves::dup2(alloc, effect, frame),
-        Instr::Dup2X1 => moves::dup2_x1(alloc, effect, frame),
-        Instr::Dup2X2 => moves::dup2_x2(alloc, effect, frame),
-        Instr::Swap => moves::swap(alloc, effect, frame),
+        Instr::Dup => moves::shuffle(alloc, effect, frame, &[Single], &[0, 0]),
+        Instr::DupX1 => moves::shuffle(alloc, effect, frame, &[Single, Single], &[0, 1, 0]),
+        Instr::DupX2 => moves::shuffle(alloc, effect, frame, &[Single, Pair(1)], &[0, 1, 2, 0]),
+        Instr::Dup2 => moves::shuffle(alloc, effect, frame, &[Pair(0)], &[0, 1, 0, 1]),
+        Instr::Dup2X1 => moves::shuffle(alloc, effect, frame, &[Pair(0), Single], &[0, 1, 2, 0, 1]),
+        Instr::Dup2X2 => moves::shuffle(
+            alloc,
+            effect,
+            frame,
+            &[Pair(0), Pair(2)],
+            &[0, 1, 2, 3, 0, 1],
+        ),
+        Instr::Swap => moves::shuffle(alloc, effect, frame, &[Single, Single], &[1, 0]),
         Instr::Binary { op, wide } => moves::binary(effect, op, *wide),
         Instr::Neg { wide } => moves::number(effect, *wide, *wide),
-        Instr::Inc { local, by: _ } => moves::read(
-            &mut effect.reads,
-            *local,
-            OperandConstraint::Fits(VType::Int),
-        ),
+        Instr::Inc { local, by: _ } => moves::read(&mut effect.reads, *local, Fits(VType::Int)),
         Instr::Convert { to } => moves::conversion(effect, to),
         Instr::Compare => moves::comparison(effect),
         Instr::IfZero { test: _, to: _ } => push_int(&mut effect.takes),
-        Instr::IfInts { test: _, to: _ } => members::test_two(effect),
+        Instr::IfInts { test: _, to: _ } => members::push_ints(&mut effect.takes, 2),
         Instr::IfRefs { same: _, to: _ } => members::references(effect, frame),
         Instr::IfNull { null: _, to: _ } => members::reference(effect, frame),
         Instr::Goto { to: _ } => {
