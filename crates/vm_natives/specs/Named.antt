@@ -1,17 +1,14 @@
 -- What methods do with a name, and perhaps a text: the parts of their rows.
-use Rattle.std.specs.Prelude.{ℕ, List, ◌∷◌, ◌++◌, length, ◌+◌, Bool, is_some, Option, Some, None}
+use Rattle.std.specs.Prelude.{ℕ, List, ◌∷◌, ◌++◌, length, ◌+◌, is_some, Option, Some, None}
 use Rattle.jvm_model.specs.{declared.values.Value.Value, World.text_or_empty, Rows.on_text, Access.read, Access.write, Access.spend}
 use Rattle.jvm_model.specs.declared.values.Location.TheVariants as place
 use Rattle.jvm_model.specs.NativesOutside.{one_text, two_texts, changes_property}
 use Rattle.jvm_model.specs.Working.{Working, operands, with_operands, answers, answers_found, truth}
 use Rattle.vm_mem.specs.Refines.{Row}
+use Rattle.vm_natives.specs.Rows.{costly_row}
 use Rattle.vm_natives.specs.declared.named.{Named.Named, Change.Change}
 use Rattle.vm_natives.specs.declared.named.Named.TheVariants.{GetProperty, ClearProperty, ReadFile, DeleteFile, FileExists, Given}
 use Rattle.vm_natives.specs.declared.named.Change.TheVariants.{SetProperty, WriteFile, AppendFile}
-
--- the call answers a value at this cost
-abbrev pub priced_row : ℕ → Value → Row Working
-priced_row n v p s = spend n (answers p s (v ∷ operands s))
 
 -- the text of a property, of a file
 abbrev pub property_row : List ℕ → Row Working
@@ -28,26 +25,20 @@ property_change_row name t n p s = read (place.Prop name) (λ c. changes_propert
 abbrev pub put_row : ℕ → List ℕ → List ℕ → Row Working
 put_row n name t p s = spend n (write (place.File name) (Some t) (answers p s (operands s)))
 
-abbrev pub write_row : List ℕ → List ℕ → Row Working
-write_row name t p s = put_row (length name + length t) name t p s
-
 abbrev pub append_row : List ℕ → List ℕ → Row Working
 append_row name t p s = read (place.File name) (λ c. put_row (length name + length t) name (text_or_empty c ++ t) p s)
 
--- a file is taken away; this is answered
-abbrev pub taken_row : List ℕ → Bool → Row Working
-taken_row name b p s = spend (length name) (write (place.File name) None (answers p s (truth b ∷ operands s)))
-
+-- a file is taken away; whether there was one is answered
 abbrev pub delete_row : List ℕ → Row Working
-delete_row name p s = read (place.File name) (λ c. taken_row name (is_some c) p s)
+delete_row name p s = read (place.File name) (λ c. spend (length name) (write (place.File name) None (answers p s (truth (is_some c) ∷ operands s))))
 
 abbrev pub exists_row : List ℕ → Row Working
-exists_row name p s = read (place.File name) (λ c. priced_row (length name) (truth (is_some c)) p s)
+exists_row name p s = read (place.File name) (λ c. costly_row (length name) (truth (is_some c)) p s)
 
 -- what is done with a name and a text
 unfoldable pub change_row : Change → List ℕ → List ℕ → Row Working
 change_row SetProperty name t p s = property_change_row name (Some t) (length t) p s
-change_row WriteFile name t p s = write_row name t p s
+change_row WriteFile name t p s = put_row (length name + length t) name t p s
 change_row AppendFile name t p s = append_row name t p s
 
 -- the same with the text of a String

@@ -1,9 +1,7 @@
 -- Parts of the rows of the methods of System, PrintStream, Files and Env.
-use Rattle.std.specs.Prelude.{ℕ, List, [], ◌∷◌, ◌++◌, Bool, true, false}
-use Rattle.std.specs.Fmt.{signed_decimal}
-use Rattle.et_base.specs.Quotes.{utf8_of}
-use Rattle.jvm_model.specs.{Rows.on_int, Rows.on_long, NativesOutside.line_feed, NativesOutside.on_printed, NativesOutside.prints_string}
-use Rattle.jvm_model.specs.Working.{Working, operands, prints, boolean_text, char_of}
+use Rattle.std.specs.Prelude.{ℕ, List, ◌++◌, Bool, true, false}
+use Rattle.jvm_model.specs.{Rows.popping, NativesOutside.line_feed, NativesOutside.on_printed, NativesOutside.prints_string}
+use Rattle.jvm_model.specs.Working.{Working, operands, prints}
 use Rattle.vm_mem.specs.Refines.{Row}
 
 -- the call prints these bytes
@@ -19,15 +17,6 @@ abbrev pub ended : Bool → List ℕ → List ℕ
 ended false bytes = bytes
 ended true bytes = bytes ++ line_feed
 
--- an int, a long, a boolean or a char is printed, perhaps as a line
-abbrev pub int_print_row : Bool → Row Working
-int_print_row line p s = on_printed s (λ v vs. on_int v (λ n. prints p s vs (ended line (signed_decimal n))))
-
-abbrev pub long_print_row : Bool → Row Working
-long_print_row line p s = on_printed s (λ v vs. on_long v (λ n. prints p s vs (ended line (signed_decimal n))))
-
-abbrev pub boolean_print_row : Bool → Row Working
-boolean_print_row line p s = on_printed s (λ v vs. on_int v (λ n. prints p s vs (ended line (boolean_text n))))
-
-abbrev pub char_print_row : Bool → Row Working
-char_print_row line p s = on_printed s (λ v vs. on_int v (λ n. prints p s vs (ended line (utf8_of (char_of n ∷ [])))))
+-- the stream below the argument is taken, and these bytes are printed
+abbrev pub value_print_row : List ℕ → Row Working
+value_print_row bytes p s = popping (operands s) (λ r vs. prints p s vs bytes)

@@ -6,9 +6,9 @@ ghost use Rattle.vm_mem.specs.Refines.{IsReady, IsNext, Makes};
 ghost use Rattle.vm_natives.specs.Rows.{with_own, builder_row, begun_row, appended_row};
 
 use crate::texts::length_of;
-use crate::working::{answer, answer_text};
+use crate::working::{NULL_FAULT, answer, answer_text};
 use et_base::{NoMemory, Units};
-use jvm_model::{NULL_POINTER_EXCEPTION, Next, Own, Program, Value};
+use jvm_model::{Next, Own, Program, Value};
 use std::alloc::Global;
 use vm_frames::FrameStack;
 use vm_mem::Memory;
@@ -41,12 +41,8 @@ pub fn init<M: Memory>(
             *left -= 1;
             Ok(Next::Go)
         }
-        Value::Null => Ok(Next::Fault {
-            class: NULL_POINTER_EXCEPTION,
-        }),
-        Value::Int(_) => unreachable!(),
-        Value::Long(_) => unreachable!(),
-        Value::Lit(_) => unreachable!(),
+        Value::Null => Ok(NULL_FAULT),
+        Value::Int(_) | Value::Long(_) | Value::Lit(_) => unreachable!(),
     }
 }
 
@@ -79,11 +75,8 @@ pub fn init_string<M: Memory>(
             let text = Units::from_slice(alloc, memory.get_text(object)?.as_slice())?;
             begin_with(stack, memory, p, own, receiver, text, next, left)
         }
-        Value::Null => Ok(Next::Fault {
-            class: NULL_POINTER_EXCEPTION,
-        }),
-        Value::Int(_) => unreachable!(),
-        Value::Long(_) => unreachable!(),
+        Value::Null => Ok(NULL_FAULT),
+        Value::Int(_) | Value::Long(_) => unreachable!(),
     }
 }
 
@@ -115,12 +108,8 @@ fn begin_with<M: Memory>(
             *left -= cost + 1;
             Ok(Next::Go)
         }
-        Value::Null => Ok(Next::Fault {
-            class: NULL_POINTER_EXCEPTION,
-        }),
-        Value::Int(_) => unreachable!(),
-        Value::Long(_) => unreachable!(),
-        Value::Lit(_) => unreachable!(),
+        Value::Null => Ok(NULL_FAULT),
+        Value::Int(_) | Value::Long(_) | Value::Lit(_) => unreachable!(),
     }
 }
 
@@ -155,8 +144,7 @@ pub fn append_string<M: Memory>(
             let more = Units::from_slice(alloc, memory.get_text(object)?.as_slice())?;
             append(stack, memory, p, own, receiver, more.as_slice(), next, left)
         }
-        Value::Int(_) => unreachable!(),
-        Value::Long(_) => unreachable!(),
+        Value::Int(_) | Value::Long(_) => unreachable!(),
     }
 }
 
@@ -193,12 +181,8 @@ pub fn append<M: Memory>(
             *left -= cost + 1;
             Ok(Next::Go)
         }
-        Value::Null => Ok(Next::Fault {
-            class: NULL_POINTER_EXCEPTION,
-        }),
-        Value::Int(_) => unreachable!(),
-        Value::Long(_) => unreachable!(),
-        Value::Lit(_) => unreachable!(),
+        Value::Null => Ok(NULL_FAULT),
+        Value::Int(_) | Value::Long(_) | Value::Lit(_) => unreachable!(),
     }
 }
 
@@ -224,12 +208,8 @@ pub fn length<M: Memory>(
             let length = length_of(memory.get_text(object)?.as_slice());
             Ok(answer(stack, p, Value::Int(length), next, left))
         }
-        Value::Null => Ok(Next::Fault {
-            class: NULL_POINTER_EXCEPTION,
-        }),
-        Value::Int(_) => unreachable!(),
-        Value::Long(_) => unreachable!(),
-        Value::Lit(_) => unreachable!(),
+        Value::Null => Ok(NULL_FAULT),
+        Value::Int(_) | Value::Long(_) | Value::Lit(_) => unreachable!(),
     }
 }
 
@@ -256,11 +236,7 @@ pub fn to_string<M: Memory>(
             let text = Units::from_slice(alloc, memory.get_text(object)?.as_slice())?;
             answer_text(stack, memory, p, own, text, 0, next, left)
         }
-        Value::Null => Ok(Next::Fault {
-            class: NULL_POINTER_EXCEPTION,
-        }),
-        Value::Int(_) => unreachable!(),
-        Value::Long(_) => unreachable!(),
-        Value::Lit(_) => unreachable!(),
+        Value::Null => Ok(NULL_FAULT),
+        Value::Int(_) | Value::Long(_) | Value::Lit(_) => unreachable!(),
     }
 }

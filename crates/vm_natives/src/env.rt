@@ -4,39 +4,12 @@ ghost use Rattle.std.specs.Prelude.{◌≡◌};
 ghost use Rattle.jvm_model.specs.{declared.library.Native.Native, World.World};
 ghost use Rattle.jvm_model.specs.NativesOutside as natives;
 ghost use Rattle.vm_frames.specs.Stack.{HasRoom};
-ghost use Rattle.vm_mem.specs.Refines.{IsReady, IsNext, Refines, Makes};
+ghost use Rattle.vm_mem.specs.Refines.{IsNext, Refines};
 ghost use Rattle.vm_natives.specs.Rows.{with_own, env_row};
 
-use crate::stream::print as print_bytes;
 use crate::working::answer;
-use et_base::{NoMemory, decimal32};
 use jvm_model::{Next, Own, Program, Value};
-use std::alloc::Global;
 use vm_frames::FrameStack;
-use vm_mem::Memory;
-
-/// `print(int)`: the decimal digits and a line feed. It counts 1 and a unit for each byte.
-#[tactic(auto, unfolding(jvm_model::specs::NativesOutside::native_env))]
-pub fn print<M: Memory>(
-    alloc: Global,
-    stack: &mut FrameStack,
-    memory: &mut M,
-    p: &Program,
-    own: &mut Own,
-    next: u32,
-    left: &mut u64,
-) -> Result<Next, NoMemory>
-    requires place { IsNext p.now stack.old next }
-    requires row { IsReady (env_row Native.EnvPrint) p.now M.program M.world memory.old
-        (with_own stack.old own.old) }
-    ensures made { Makes (env_row Native.EnvPrint) M.program M.world M.follows memory.old memory.new
-        (with_own stack.old own.old) left.old result (with_own stack.new own.new) left.new }
-{
-    let number = stack.pop_int();
-    let mut bytes = decimal32(alloc, number)?;
-    bytes.push(b'\n')?;
-    print_bytes(stack, p, own, bytes.as_slice(), next, left)
-}
 
 /// `random()`: the random word steps, and its upper half is answered. It counts 1. Over, with nothing done, where no unit
 /// is left.

@@ -3,10 +3,9 @@
 ghost use Rattle.vm_frames.specs.Stack.{HasRoom};
 ghost use Rattle.vm_mem.specs.Refines.{IsReady, IsNext, Makes};
 ghost use Rattle.vm_natives.specs.Rows.{with_own};
-ghost use Rattle.vm_natives.specs.Named.{file_row, write_row, append_row, put_row, delete_row, taken_row, exists_row};
+ghost use Rattle.vm_natives.specs.Named.{file_row, append_row, put_row, delete_row, exists_row};
 
-use crate::named::answer_for;
-use crate::working::{answer, answer_text, end, truth};
+use crate::working::{answer, answer_costly, answer_text, end, truth};
 use et_base::{NoMemory, Units};
 use jvm_model::{Next, Own, Program, Value};
 use sim_store::Part;
@@ -35,7 +34,7 @@ pub fn read_at<M: Memory>(
 {
     let cost = name.as_slice().len() as u64;
     match memory.get_store(Part::File, name)? {
-        None => Ok(answer_for(stack, p, Value::Null, cost, next, left)),
+        None => Ok(answer_costly(stack, p, Value::Null, cost, next, left)),
         Some(text) => {
             let text = Units::from_slice(alloc, text.as_slice())?;
             answer_text(stack, memory, p, own, text, cost, next, left)
@@ -43,30 +42,8 @@ pub fn read_at<M: Memory>(
     }
 }
 
-/// `write(String, String)`: the file has this text. It counts 1 and a unit for each of the name and of the text. Over, with
-/// nothing written, where fewer units are left.
-pub fn write_at<M: Memory>(
-    stack: &mut FrameStack,
-    memory: &mut M,
-    p: &Program,
-    own: &Own,
-    name: Units,
-    text: Units,
-    next: u32,
-    left: &mut u64,
-) -> Result<Next, NoMemory>
-    requires place { IsNext p.now stack.old next }
-    requires row { IsReady (write_row name text) p.now M.program M.world memory.old
-        (with_own stack.old own.now) }
-    ensures made { Makes (write_row name text) M.program M.world M.follows memory.old memory.new
-        (with_own stack.old own.now) left.old result (with_own stack.new own.now) left.new }
-{
-    let cost = name.as_slice().len() as u64 + text.as_slice().len() as u64;
-    put_file(stack, memory, p, own, name, text, cost, next, left)
-}
-
-/// `append(String, String)`: the file has its text and this one after it; where there is no file, this one alone. It counts
-/// as `write` does.
+/// `append(String, String)`: the file has its text and this one after it; where there is no file, this one alone. It
+/// counts as `write` does.
 pub fn append_to<M: Memory>(
     alloc: Global,
     stack: &mut FrameStack,
@@ -95,8 +72,8 @@ pub fn append_to<M: Memory>(
     }
 }
 
-/// A file has this text, at this cost.
-fn put_file<M: Memory>(
+/// A file has this text, at this cost. Over, with nothing written, where too few units are left.
+pub fn put_file<M: Memory>(
     stack: &mut FrameStack,
     memory: &mut M,
     p: &Program,
@@ -139,30 +116,10 @@ pub fn delete_at<M: Memory>(
     ensures made { Makes (delete_row name) M.program M.world M.follows memory.old memory.new
         (with_own stack.old own.now) left.old result (with_own stack.new own.now) left.new }
 {
-    match memory.get_store(Part::File, &name)? {
-        None => take_file(stack, memory, p, own, name, false, next, left),
-        Some(_) => take_file(stack, memory, p, own, name, true, next, left),
-    }
-}
-
-/// A file is taken away, and this is answered.
-fn take_file<M: Memory>(
-    stack: &mut FrameStack,
-    memory: &mut M,
-    p: &Program,
-    own: &Own,
-    name: Units,
-    found: bool,
-    next: u32,
-    left: &mut u64,
-) -> Result<Next, NoMemory>
-    requires place { IsNext p.now stack.old next }
-    requires room { HasRoom 1 stack.old }
-    requires row { IsReady (taken_row name found) p.now M.program M.world memory.old
-        (with_own stack.old own.now) }
-    ensures made { Makes (taken_row name found) M.program M.world M.follows memory.old memory.new
-        (with_own stack.old own.now) left.old result (with_own stack.new own.now) left.new }
-{
+    let found = match memory.get_store(Part::File, &name)? {
+        None => false,
+        Some(_) => true,
+    };
     let cost = name.as_slice().len() as u64;
     if *left <= cost {
         return Ok(Next::Over);
@@ -190,8 +147,9 @@ pub fn exists_at<M: Memory>(
         (with_own stack.old own.now) left.old result (with_own stack.new own.now) left.new }
 {
     let cost = name.as_slice().len() as u64;
-    match memory.get_store(Part::File, name)? {
-        None => Ok(answer_for(stack, p, truth(false), cost, next, left)),
-        Some(_) => Ok(answer_for(stack, p, truth(true), cost, next, left)),
-    }
+    let found = match memory.get_store(Part::File, name)? {
+        None => false,
+        Some(_) => true,
+    };
+    Ok(answer_costly(stack, p, truth(found), cost, next, left))
 }

@@ -2,15 +2,15 @@
 
 ghost use Rattle.vm_frames.specs.Stack.{HasRoom};
 ghost use Rattle.vm_mem.specs.Refines.{IsReady, IsNext, Makes};
-ghost use Rattle.vm_natives.specs.Rows.{growth, with_own, object_row, string_row, builder_row, system_row, print_row, files_row, env_row, throwable_row};
+ghost use Rattle.vm_natives.specs.Rows.{growth, with_own, object_row, string_row, builder_row, system_row, print_row, files_row, throwable_row};
 
 use crate::named::{Change, Named, with_name, with_texts};
 use crate::references::same_reference;
-use crate::stream::{print, print_boolean, print_char, print_int, print_long, print_text};
+use crate::stream::{char_bytes, print, print_text, print_value};
 use crate::texts::{boolean_text, char_unit, int_text, long_text};
 use crate::working::{answer, answer_text, end, truth};
-use crate::{builder, env, string, system, throwable};
-use et_base::{NoMemory, Units};
+use crate::{builder, string, system, throwable};
+use et_base::{NoMemory, Text, Units, decimal32, decimal64};
 use jvm_model::{Native, Next, Own, Program, Value};
 use std::alloc::Global;
 use vm_frames::FrameStack;
@@ -193,28 +193,12 @@ pub fn of_system<M: Memory>(
             with_name(alloc, stack, memory, p, own, Named::GetProperty, next, left)
         }
         Native::SystemSetProperty => {
-            with_texts(
-                alloc,
-                stack,
-                memory,
-                p,
-                own,
-                Change::SetProperty,
-                next,
-                left,
-            )
+            let change = Change::SetProperty;
+            with_texts(alloc, stack, memory, p, own, change, next, left)
         }
         Native::SystemClearProperty => {
-            with_name(
-                alloc,
-                stack,
-                memory,
-                p,
-                own,
-                Named::ClearProperty,
-                next,
-                left,
-            )
+            let named = Named::ClearProperty;
+            with_name(alloc, stack, memory, p, own, named, next, left)
         }
         _ => unreachable!(),
     }
@@ -240,15 +224,39 @@ pub fn of_stream<M: Memory>(
 {
     match which {
         Native::PrintString => print_text(alloc, stack, memory, p, own, &[], next, left),
-        Native::PrintInt => print_int(alloc, stack, memory, p, own, false, next, left),
-        Native::PrintLong => print_long(alloc, stack, memory, p, own, false, next, left),
-        Native::PrintBoolean => print_boolean(alloc, stack, memory, p, own, false, next, left),
-        Native::PrintChar => print_char(alloc, stack, memory, p, own, false, next, left),
+        Native::PrintInt => {
+            let bytes = decimal32(alloc, stack.pop_int())?;
+            print_value(stack, p, own, bytes, false, next, left)
+        }
+        Native::PrintLong => {
+            let bytes = decimal64(alloc, stack.pop_long())?;
+            print_value(stack, p, own, bytes, false, next, left)
+        }
+        Native::PrintBoolean => {
+            let bytes = Text::from_slice(alloc, boolean_text(stack.pop_int()))?;
+            print_value(stack, p, own, bytes, false, next, left)
+        }
+        Native::PrintChar => {
+            let bytes = char_bytes(alloc, stack.pop_int())?;
+            print_value(stack, p, own, bytes, false, next, left)
+        }
         Native::PrintlnString => print_text(alloc, stack, memory, p, own, b"\n", next, left),
-        Native::PrintlnInt => print_int(alloc, stack, memory, p, own, true, next, left),
-        Native::PrintlnLong => print_long(alloc, stack, memory, p, own, true, next, left),
-        Native::PrintlnBoolean => print_boolean(alloc, stack, memory, p, own, true, next, left),
-        Native::PrintlnChar => print_char(alloc, stack, memory, p, own, true, next, left),
+        Native::PrintlnInt => {
+            let bytes = decimal32(alloc, stack.pop_int())?;
+            print_value(stack, p, own, bytes, true, next, left)
+        }
+        Native::PrintlnLong => {
+            let bytes = decimal64(alloc, stack.pop_long())?;
+            print_value(stack, p, own, bytes, true, next, left)
+        }
+        Native::PrintlnBoolean => {
+            let bytes = Text::from_slice(alloc, boolean_text(stack.pop_int()))?;
+            print_value(stack, p, own, bytes, true, next, left)
+        }
+        Native::PrintlnChar => {
+            let bytes = char_bytes(alloc, stack.pop_int())?;
+            print_value(stack, p, own, bytes, true, next, left)
+        }
         Native::Println => {
             stack.pop_value();
             print(stack, p, own, b"\n", next, left)
@@ -289,32 +297,6 @@ pub fn of_files<M: Memory>(
         Native::FilesExists => {
             with_name(alloc, stack, memory, p, own, Named::FileExists, next, left)
         }
-        _ => unreachable!(),
-    }
-}
-
-/// A method of electric.Env.
-#[tactic(auto, unfolding(jvm_model::specs::NativesOutside::native_env))]
-pub fn of_env<M: Memory>(
-    alloc: Global,
-    stack: &mut FrameStack,
-    memory: &mut M,
-    p: &Program,
-    own: &mut Own,
-    which: Native,
-    next: u32,
-    left: &mut u64,
-) -> Result<Next, NoMemory>
-    requires place { IsNext p.now stack.old next }
-    requires room { HasRoom (growth which) stack.old }
-    requires row { IsReady (env_row which) p.now M.program M.world memory.old
-        (with_own stack.old own.old) }
-    ensures made { Makes (env_row which) M.program M.world M.follows memory.old memory.new
-        (with_own stack.old own.old) left.old result (with_own stack.new own.new) left.new }
-{
-    match which {
-        Native::EnvPrint => env::print(alloc, stack, memory, p, own, next, left),
-        Native::EnvRandom => Ok(env::random(stack, p, own, next, left)),
         _ => unreachable!(),
     }
 }

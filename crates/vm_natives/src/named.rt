@@ -1,16 +1,15 @@
 //! Methods that are given a name, and perhaps a text.
 
 ghost use Rattle.vm_frames.specs.Stack.{HasRoom};
-ghost use Rattle.vm_mem.specs.Refines.{IsReady, IsNext, Refines, Makes};
+ghost use Rattle.vm_mem.specs.Refines.{IsReady, IsNext, Makes};
 ghost use Rattle.vm_natives.specs.Rows.{with_own};
-ghost use Rattle.vm_natives.specs.Named.{name_row, named_row, given_row, texts_row, change_row, priced_row};
-ghost use Rattle.jvm_model.specs.{declared.outcome.Own.Own, World.World};
+ghost use Rattle.vm_natives.specs.Named.{name_row, named_row, given_row, texts_row, change_row};
 
-use crate::files::{append_to, delete_at, exists_at, read_at, write_at};
+use crate::files::{append_to, delete_at, exists_at, put_file, read_at};
 use crate::system::{change_property, property_at};
-use crate::working::answer;
+use crate::working::NULL_FAULT;
 use et_base::{NoMemory, Units};
-use jvm_model::{NULL_POINTER_EXCEPTION, Next, Own, Program, Value};
+use jvm_model::{Next, Own, Program, Value};
 use std::alloc::Global;
 use vm_frames::FrameStack;
 use vm_mem::Memory;
@@ -59,12 +58,9 @@ pub fn with_texts<M: Memory>(
         Value::Obj(_) => with_name(alloc, stack, memory, p, own, named, next, left),
         Value::Null => {
             stack.pop_value();
-            Ok(Next::Fault {
-                class: NULL_POINTER_EXCEPTION,
-            })
+            Ok(NULL_FAULT)
         }
-        Value::Int(_) => unreachable!(),
-        Value::Long(_) => unreachable!(),
+        Value::Int(_) | Value::Long(_) => unreachable!(),
     }
 }
 
@@ -95,11 +91,8 @@ pub fn with_name<M: Memory>(
             let name = Units::from_slice(alloc, memory.get_text(object)?.as_slice())?;
             on_name(alloc, stack, memory, p, own, named, name, next, left)
         }
-        Value::Null => Ok(Next::Fault {
-            class: NULL_POINTER_EXCEPTION,
-        }),
-        Value::Int(_) => unreachable!(),
-        Value::Long(_) => unreachable!(),
+        Value::Null => Ok(NULL_FAULT),
+        Value::Int(_) | Value::Long(_) => unreachable!(),
     }
 }
 
@@ -167,11 +160,8 @@ fn with_text<M: Memory>(
             let text = Units::from_slice(alloc, memory.get_text(object)?.as_slice())?;
             on_texts(alloc, stack, memory, p, own, change, name, text, next, left)
         }
-        Value::Null => Ok(Next::Fault {
-            class: NULL_POINTER_EXCEPTION,
-        }),
-        Value::Int(_) => unreachable!(),
-        Value::Long(_) => unreachable!(),
+        Value::Null => Ok(NULL_FAULT),
+        Value::Int(_) | Value::Long(_) => unreachable!(),
     }
 }
 
@@ -200,42 +190,14 @@ fn on_texts<M: Memory>(
     match change {
         Change::SetProperty => {
             let units = text.as_slice().len() as u64;
-            change_property(
-                alloc,
-                stack,
-                memory,
-                p,
-                own,
-                name,
-                Some(text),
-                units,
-                next,
-                left,
-            )
+            let text = Some(text);
+            change_property(alloc, stack, memory, p, own, name, text, units, next, left)
         }
-        Change::WriteFile => write_at(stack, memory, p, own, name, text, next, left),
+        // It counts 1 and a unit for each of the name and of the text.
+        Change::WriteFile => {
+            let cost = name.as_slice().len() as u64 + text.as_slice().len() as u64;
+            put_file(stack, memory, p, own, name, text, cost, next, left)
+        }
         Change::AppendFile => append_to(alloc, stack, memory, p, own, name, text, next, left),
     }
-}
-
-/// The call answers a value, and counts this besides the 1 of the step. Over, with nothing done, where fewer units are
-/// left.
-pub fn answer_for(
-    stack: &mut FrameStack,
-    p: &Program,
-    value: Value,
-    cost: u64,
-    next: u32,
-    left: &mut u64,
-) -> Next
-    requires place { IsNext p.now stack.old next }
-    requires room { HasRoom 1 stack.old }
-    ensures { (w : World) (o : Own) → Refines (priced_row cost value)
-        p.now w (with_own stack.old o) left.old result (with_own stack.new o) w left.new }
-{
-    if *left <= cost {
-        return Next::Over;
-    }
-    *left -= cost;
-    answer(stack, p, value, next, left)
 }

@@ -4,10 +4,12 @@ ghost use Rattle.vm_frames.specs.Stack.{HasRoom};
 ghost use Rattle.vm_mem.specs.Refines.{IsReady, IsNext, Makes};
 ghost use Rattle.vm_natives.specs.Rows.{with_own, native_row, growth};
 
+use crate::env::random;
 use crate::groups::{
-    of_builder, of_env, of_files, of_object, of_stream, of_string, of_system, of_throwable,
+    of_builder, of_files, of_object, of_stream, of_string, of_system, of_throwable,
 };
-use et_base::NoMemory;
+use crate::stream::{ended, print};
+use et_base::{NoMemory, decimal32};
 use jvm_model::{Native, Next, Own, Program};
 use std::alloc::Global;
 use vm_frames::FrameStack;
@@ -16,7 +18,7 @@ use vm_mem::Memory;
 /// Runs a built-in method on the operands at the top of the calling frame, in the step that calls it, with the byte place
 /// of the next instruction. Go counts the 1 of the step and the method's cost; Fault counts nothing, with the operands as
 /// the method leaves them. Over, with nothing done but reads, where fewer units are left.
-#[tactic(auto, unfolding(jvm_model::specs::Natives::row_native))]
+#[tactic(auto, unfolding(jvm_model::specs::Natives::row_native, jvm_model::specs::NativesOutside::native_env))]
 pub fn native<M: Memory>(
     alloc: Global,
     stack: &mut FrameStack,
@@ -80,9 +82,12 @@ pub fn native<M: Memory>(
         | Native::FilesAppend
         | Native::FilesDelete
         | Native::FilesExists => of_files(alloc, stack, memory, p, own, which, next, left),
-        Native::EnvPrint | Native::EnvRandom => {
-            of_env(alloc, stack, memory, p, own, which, next, left)
+        // `print(int)`: the decimal digits and a line feed. It counts 1 and a unit for each byte.
+        Native::EnvPrint => {
+            let bytes = ended(decimal32(alloc, stack.pop_int())?, true)?;
+            print(stack, p, own, bytes.as_slice(), next, left)
         }
+        Native::EnvRandom => Ok(random(stack, p, own, next, left)),
         Native::ThrowableInit
         | Native::ThrowableInitString
         | Native::ThrowableGetMessage

@@ -1,15 +1,16 @@
 //! The methods of java.io.PrintStream, on the stream of `System.out`. Each is over once its bytes are printed; where fewer
 //! units are left than it counts it answers Over, with nothing printed.
 
-ghost use Rattle.std.specs.Prelude.{◌≡◌, ◌++◌, IfOk};
+ghost use Rattle.std.specs.Prelude.{◌≡◌, ◌<◌, [], ◌∷◌, ◌++◌, length, IfOk};
 ghost use Rattle.et_base.specs.Quotes.{utf8_of};
-ghost use Rattle.jvm_model.specs.World.{World};
+ghost use Rattle.jvm_model.specs.{World.World, Working.char_of};
 ghost use Rattle.vm_mem.specs.Refines.{IsReady, IsNext, Refines, Makes};
 ghost use Rattle.vm_natives.specs.Rows.{with_own};
-ghost use Rattle.vm_natives.specs.Outside.{boolean_print_row, bytes_row, char_print_row, ended, int_print_row, long_print_row, string_print_row};
+ghost use Rattle.vm_natives.specs.Outside as parts;
+ghost use Rattle.vm_natives.specs.Outside.{bytes_row, string_print_row, value_print_row};
 
-use crate::texts::{boolean_text, char_unit};
-use et_base::{NoMemory, Text, Units, bytes_of_units, decimal32, decimal64};
+use crate::texts::char_unit;
+use et_base::{NoMemory, Text, Units, bytes_of_units};
 use jvm_model::{Next, Own, Program, Value};
 use std::alloc::Global;
 use vm_frames::FrameStack;
@@ -94,14 +95,13 @@ pub fn print_text<M: Memory>(
             let units = memory.get_text(object)?;
             print_units(alloc, stack, p, own, units, end, next, left)
         }
-        Value::Int(_) => unreachable!(),
-        Value::Long(_) => unreachable!(),
+        Value::Int(_) | Value::Long(_) => unreachable!(),
     }
 }
 
 /// The bytes, and a line feed behind them where they are a line.
-fn ended(bytes: Text, line: bool) -> Result<Text, NoMemory>
-    ensures { IfOk result (λ x. x ≡ ended line bytes) }
+pub fn ended(bytes: Text, line: bool) -> Result<Text, NoMemory>
+    ensures { IfOk result (λ x. x ≡ parts.ended line bytes) }
 {
     let mut bytes = bytes;
     if line {
@@ -110,95 +110,30 @@ fn ended(bytes: Text, line: bool) -> Result<Text, NoMemory>
     Ok(bytes)
 }
 
-/// `print(int)`, and `println(int)` where it is a line: the decimal digits. It counts 1 and a unit for each byte.
-pub fn print_int<M: Memory>(
-    alloc: Global,
+/// Takes the stream below an argument and prints these bytes of the argument, as a line or not.
+pub fn print_value(
     stack: &mut FrameStack,
-    memory: &mut M,
     p: &Program,
     own: &mut Own,
+    bytes: Text,
     line: bool,
     next: u32,
     left: &mut u64,
 ) -> Result<Next, NoMemory>
     requires place { IsNext p.now stack.old next }
-    requires row { IsReady (int_print_row line) p.now M.program M.world memory.old
-        (with_own stack.old own.old) }
-    ensures made { Makes (int_print_row line) M.program M.world M.follows memory.old memory.new
-        (with_own stack.old own.old) left.old result (with_own stack.new own.new) left.new }
+    requires stream { 0 < length stack.old.top.stack }
+    ensures { IfOk result (λ x. (w : World) → Refines (value_print_row (parts.ended line bytes))
+        p.now w (with_own stack.old own.old) left.old x (with_own stack.new own.new) w left.new) }
 {
-    let number = stack.pop_int();
     stack.pop_value();
-    let bytes = ended(decimal32(alloc, number)?, line)?;
+    let bytes = ended(bytes, line)?;
     print(stack, p, own, bytes.as_slice(), next, left)
 }
 
-/// `print(long)`, and `println(long)` where it is a line: the decimal digits. It counts 1 and a unit for each byte.
-pub fn print_long<M: Memory>(
-    alloc: Global,
-    stack: &mut FrameStack,
-    memory: &mut M,
-    p: &Program,
-    own: &mut Own,
-    line: bool,
-    next: u32,
-    left: &mut u64,
-) -> Result<Next, NoMemory>
-    requires place { IsNext p.now stack.old next }
-    requires row { IsReady (long_print_row line) p.now M.program M.world memory.old
-        (with_own stack.old own.old) }
-    ensures made { Makes (long_print_row line) M.program M.world M.follows memory.old memory.new
-        (with_own stack.old own.old) left.old result (with_own stack.new own.new) left.new }
+/// A char in UTF-8, or `?` where it is a surrogate.
+pub fn char_bytes(alloc: Global, n: i32) -> Result<Text, NoMemory>
+    ensures { IfOk result (λ bytes. bytes ≡ utf8_of (char_of n ∷ [])) }
 {
-    let number = stack.pop_long();
-    stack.pop_value();
-    let bytes = ended(decimal64(alloc, number)?, line)?;
-    print(stack, p, own, bytes.as_slice(), next, left)
-}
-
-/// `print(boolean)`, and `println(boolean)` where it is a line: `true` or `false`. It counts 1 and a unit for each byte.
-pub fn print_boolean<M: Memory>(
-    alloc: Global,
-    stack: &mut FrameStack,
-    memory: &mut M,
-    p: &Program,
-    own: &mut Own,
-    line: bool,
-    next: u32,
-    left: &mut u64,
-) -> Result<Next, NoMemory>
-    requires place { IsNext p.now stack.old next }
-    requires row { IsReady (boolean_print_row line) p.now M.program M.world memory.old
-        (with_own stack.old own.old) }
-    ensures made { Makes (boolean_print_row line) M.program M.world M.follows memory.old memory.new
-        (with_own stack.old own.old) left.old result (with_own stack.new own.new) left.new }
-{
-    let truth = stack.pop_int();
-    stack.pop_value();
-    let bytes = ended(Text::from_slice(alloc, boolean_text(truth))?, line)?;
-    print(stack, p, own, bytes.as_slice(), next, left)
-}
-
-/// `print(char)`, and `println(char)` where it is a line: the char in UTF-8, or `?` where it is a surrogate. It counts 1 and a unit for each byte.
-pub fn print_char<M: Memory>(
-    alloc: Global,
-    stack: &mut FrameStack,
-    memory: &mut M,
-    p: &Program,
-    own: &mut Own,
-    line: bool,
-    next: u32,
-    left: &mut u64,
-) -> Result<Next, NoMemory>
-    requires place { IsNext p.now stack.old next }
-    requires row { IsReady (char_print_row line) p.now M.program M.world memory.old
-        (with_own stack.old own.old) }
-    ensures made { Makes (char_print_row line) M.program M.world M.follows memory.old memory.new
-        (with_own stack.old own.old) left.old result (with_own stack.new own.new) left.new }
-{
-    let char = stack.pop_int();
-    stack.pop_value();
-    let units = Units::from_slice(alloc, &[char_unit(char)])?;
-    let bytes = ended(Text::from_vec(bytes_of_units(alloc, &units)?), line)?;
-    print(stack, p, own, bytes.as_slice(), next, left)
+    let units = Units::from_slice(alloc, &[char_unit(n)])?;
+    Ok(Text::from_vec(bytes_of_units(alloc, &units)?))
 }

@@ -6,12 +6,10 @@ ghost use Rattle.vm_frames.specs.Stack.{HasRoom};
 ghost use Rattle.vm_mem.specs.Refines.{IsReady, IsNext, Refines, Makes};
 ghost use Rattle.vm_natives.specs.Rows.{with_own, string_row, unit_row, compared_row, same_row, concat_row, concat_text_row, cut_row, joined_row, part_row};
 
-use crate::texts::{hash_of, length_of, part_from, part_of, same_text};
-use crate::working::{answer, answer_costly, answer_text, truth};
+use crate::texts::{hash_of, length_of, part_of};
+use crate::working::{INDEX_FAULT, NULL_FAULT, answer, answer_costly, answer_text, truth};
 use et_base::{NoMemory, Units};
-use jvm_model::{
-    Kind, NULL_POINTER_EXCEPTION, Next, Own, Program, STRING, STRING_INDEX_EXCEPTION, Value,
-};
+use jvm_model::{Kind, Next, Own, Program, STRING, Value};
 use std::alloc::Global;
 use vm_frames::FrameStack;
 use vm_mem::Memory;
@@ -42,11 +40,8 @@ pub fn length<M: Memory>(
             let length = length_of(memory.get_text(object)?.as_slice());
             Ok(answer(stack, p, Value::Int(length), next, left))
         }
-        Value::Null => Ok(Next::Fault {
-            class: NULL_POINTER_EXCEPTION,
-        }),
-        Value::Int(_) => unreachable!(),
-        Value::Long(_) => unreachable!(),
+        Value::Null => Ok(NULL_FAULT),
+        Value::Int(_) | Value::Long(_) => unreachable!(),
     }
 }
 
@@ -76,11 +71,8 @@ pub fn is_empty<M: Memory>(
             let empty = memory.get_text(object)?.as_slice().is_empty();
             Ok(answer(stack, p, truth(empty), next, left))
         }
-        Value::Null => Ok(Next::Fault {
-            class: NULL_POINTER_EXCEPTION,
-        }),
-        Value::Int(_) => unreachable!(),
-        Value::Long(_) => unreachable!(),
+        Value::Null => Ok(NULL_FAULT),
+        Value::Int(_) | Value::Long(_) => unreachable!(),
     }
 }
 
@@ -109,11 +101,8 @@ pub fn char_at<M: Memory>(
             let text = memory.get_text(object)?.as_slice();
             Ok(answer_unit(stack, p, text, place, next, left))
         }
-        Value::Null => Ok(Next::Fault {
-            class: NULL_POINTER_EXCEPTION,
-        }),
-        Value::Int(_) => unreachable!(),
-        Value::Long(_) => unreachable!(),
+        Value::Null => Ok(NULL_FAULT),
+        Value::Int(_) | Value::Long(_) => unreachable!(),
     }
 }
 
@@ -132,14 +121,10 @@ fn answer_unit(
         p.now w (with_own stack.old o) left.old result (with_own stack.new o) w left.new }
 {
     if place < 0 {
-        return Next::Fault {
-            class: STRING_INDEX_EXCEPTION,
-        };
+        return INDEX_FAULT;
     }
     match text.get(place as usize) {
-        None => Next::Fault {
-            class: STRING_INDEX_EXCEPTION,
-        },
+        None => INDEX_FAULT,
         Some(unit) => answer(stack, p, Value::Int(i32::from(*unit)), next, left),
     }
 }
@@ -181,8 +166,7 @@ pub fn equals<M: Memory>(
             }
             compare(alloc, stack, memory, p, own, receiver, argument, next, left)
         }
-        Value::Int(_) => unreachable!(),
-        Value::Long(_) => unreachable!(),
+        Value::Int(_) | Value::Long(_) => unreachable!(),
     }
 }
 
@@ -208,30 +192,32 @@ fn compare<M: Memory>(
         memory.new (with_own stack.old own.now) left.old result (with_own stack.new own.now)
         left.new }
 {
-    match (receiver, argument) {
-        (Value::Null, _) => {
+    match receiver {
+        Value::Null => {
             stack.push_value(receiver);
             stack.push_value(argument);
-            Ok(Next::Fault {
-                class: NULL_POINTER_EXCEPTION,
-            })
+            Ok(NULL_FAULT)
         }
-        (Value::Lit(a), Value::Lit(b)) => {
-            Ok(answer_same(stack, p, p.literal(a), p.literal(b), next, left))
-        }
-        (Value::Lit(a), Value::Obj(b)) => {
-            let other = memory.get_text(b)?.as_slice();
-            Ok(answer_same(stack, p, p.literal(a), other, next, left))
-        }
-        (Value::Obj(a), Value::Lit(b)) => {
-            let text = memory.get_text(a)?.as_slice();
-            Ok(answer_same(stack, p, text, p.literal(b), next, left))
-        }
-        (Value::Obj(a), Value::Obj(b)) => {
-            let text = Units::from_slice(alloc, memory.get_text(a)?.as_slice())?;
-            let other = memory.get_text(b)?.as_slice();
-            Ok(answer_same(stack, p, text.as_slice(), other, next, left))
-        }
+        Value::Lit(n) => match argument {
+            Value::Lit(m) => Ok(answer_same(stack, p, p.literal(n), p.literal(m), next, left)),
+            Value::Obj(object) => {
+                let other = memory.get_text(object)?.as_slice();
+                Ok(answer_same(stack, p, p.literal(n), other, next, left))
+            }
+            _ => unreachable!(),
+        },
+        Value::Obj(object) => match argument {
+            Value::Lit(n) => {
+                let text = memory.get_text(object)?.as_slice();
+                Ok(answer_same(stack, p, text, p.literal(n), next, left))
+            }
+            Value::Obj(argument) => {
+                let text = Units::from_slice(alloc, memory.get_text(object)?.as_slice())?;
+                let other = memory.get_text(argument)?.as_slice();
+                Ok(answer_same(stack, p, text.as_slice(), other, next, left))
+            }
+            _ => unreachable!(),
+        },
         _ => unreachable!(),
     }
 }
@@ -251,7 +237,7 @@ fn answer_same(
         p.now w (with_own stack.old o) left.old result (with_own stack.new o) w left.new }
 {
     let cost = text.len() as u64;
-    answer_costly(stack, p, truth(same_text(text, other)), cost, next, left)
+    answer_costly(stack, p, truth(text == other), cost, next, left)
 }
 
 /// `hashCode()`: the sum of the units, each times 31 to the power of the number of those after it, wrapped. It reads
@@ -283,11 +269,8 @@ pub fn hash_code<M: Memory>(
             let hash = Value::Int(hash_of(text));
             Ok(answer_costly(stack, p, hash, text.len() as u64, next, left))
         }
-        Value::Null => Ok(Next::Fault {
-            class: NULL_POINTER_EXCEPTION,
-        }),
-        Value::Int(_) => unreachable!(),
-        Value::Long(_) => unreachable!(),
+        Value::Null => Ok(NULL_FAULT),
+        Value::Int(_) | Value::Long(_) => unreachable!(),
     }
 }
 
@@ -313,18 +296,15 @@ pub fn substring_from<M: Memory>(
     let from = stack.pop_int();
     match stack.pop_value() {
         Value::Lit(n) => {
-            let part = part_from(alloc, p.literal(n), from)?;
+            let part = part_of(alloc, p.literal(n), from, None)?;
             answer_part(stack, memory, p, own, part, next, left)
         }
         Value::Obj(object) => {
-            let part = part_from(alloc, memory.get_text(object)?.as_slice(), from)?;
+            let part = part_of(alloc, memory.get_text(object)?.as_slice(), from, None)?;
             answer_part(stack, memory, p, own, part, next, left)
         }
-        Value::Null => Ok(Next::Fault {
-            class: NULL_POINTER_EXCEPTION,
-        }),
-        Value::Int(_) => unreachable!(),
-        Value::Long(_) => unreachable!(),
+        Value::Null => Ok(NULL_FAULT),
+        Value::Int(_) | Value::Long(_) => unreachable!(),
     }
 }
 
@@ -351,15 +331,12 @@ pub fn substring<M: Memory>(
     let from = stack.pop_int();
     match stack.pop_value() {
         Value::Lit(n) => {
-            let part = part_of(alloc, p.literal(n), from, to)?;
+            let part = part_of(alloc, p.literal(n), from, Some(to))?;
             answer_part(stack, memory, p, own, part, next, left)
         }
         Value::Obj(object) => cut_text(alloc, stack, memory, p, own, object, from, to, next, left),
-        Value::Null => Ok(Next::Fault {
-            class: NULL_POINTER_EXCEPTION,
-        }),
-        Value::Int(_) => unreachable!(),
-        Value::Long(_) => unreachable!(),
+        Value::Null => Ok(NULL_FAULT),
+        Value::Int(_) | Value::Long(_) => unreachable!(),
     }
 }
 
@@ -384,7 +361,7 @@ fn cut_text<M: Memory>(
         memory.new (with_own stack.old own.now) left.old result (with_own stack.new own.now)
         left.new }
 {
-    let part = part_of(alloc, memory.get_text(object)?.as_slice(), from, to)?;
+    let part = part_of(alloc, memory.get_text(object)?.as_slice(), from, Some(to))?;
     answer_part(stack, memory, p, own, part, next, left)
 }
 
@@ -405,9 +382,7 @@ fn answer_part<M: Memory>(
         (with_own stack.old own.now) left.old result (with_own stack.new own.now) left.new }
 {
     match part {
-        None => Ok(Next::Fault {
-            class: STRING_INDEX_EXCEPTION,
-        }),
+        None => Ok(INDEX_FAULT),
         Some(text) => answer_text(stack, memory, p, own, text, 0, next, left),
     }
 }
@@ -436,11 +411,8 @@ pub fn concat<M: Memory>(
     match argument {
         Value::Lit(_) => concat_to(alloc, stack, memory, p, own, receiver, argument, next, left),
         Value::Obj(_) => concat_to(alloc, stack, memory, p, own, receiver, argument, next, left),
-        Value::Null => Ok(Next::Fault {
-            class: NULL_POINTER_EXCEPTION,
-        }),
-        Value::Int(_) => unreachable!(),
-        Value::Long(_) => unreachable!(),
+        Value::Null => Ok(NULL_FAULT),
+        Value::Int(_) | Value::Long(_) => unreachable!(),
     }
 }
 
@@ -477,11 +449,8 @@ fn concat_to<M: Memory>(
                 alloc, stack, memory, p, own, receiver, text, argument, next, left,
             )
         }
-        Value::Null => Ok(Next::Fault {
-            class: NULL_POINTER_EXCEPTION,
-        }),
-        Value::Int(_) => unreachable!(),
-        Value::Long(_) => unreachable!(),
+        Value::Null => Ok(NULL_FAULT),
+        Value::Int(_) | Value::Long(_) => unreachable!(),
     }
 }
 
@@ -515,11 +484,8 @@ fn concat_text<M: Memory>(
             let more = Units::from_slice(alloc, memory.get_text(object)?.as_slice())?;
             join(stack, memory, p, own, receiver, text, more, next, left)
         }
-        Value::Null => Ok(Next::Fault {
-            class: NULL_POINTER_EXCEPTION,
-        }),
-        Value::Int(_) => unreachable!(),
-        Value::Long(_) => unreachable!(),
+        Value::Null => Ok(NULL_FAULT),
+        Value::Int(_) | Value::Long(_) => unreachable!(),
     }
 }
 

@@ -5,8 +5,7 @@ ghost use Rattle.vm_frames.specs.Stack.{HasRoom};
 ghost use Rattle.vm_mem.specs.Refines.{IsReady, IsNext, Refines, Makes};
 ghost use Rattle.vm_natives.specs.{Rows.with_own, Rows.system_row, Named.property_row, Named.property_change_row};
 
-use crate::named::answer_for;
-use crate::working::{answer, answer_text};
+use crate::working::{answer, answer_costly, answer_text};
 use et_base::{NoMemory, Units, add64};
 use jvm_model::{Head, Kind, Next, Own, Program, STRING, Value};
 use sim_store::Part;
@@ -52,7 +51,7 @@ pub fn property_at<M: Memory>(
 {
     let cost = name.as_slice().len() as u64;
     match memory.get_store(Part::Prop, name)? {
-        None => Ok(answer_for(stack, p, Value::Null, cost, next, left)),
+        None => Ok(answer_costly(stack, p, Value::Null, cost, next, left)),
         Some(text) => {
             let text = Units::from_slice(alloc, text.as_slice())?;
             answer_text(stack, memory, p, own, text, cost, next, left)

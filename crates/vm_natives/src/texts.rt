@@ -1,7 +1,7 @@
 //! Works on the texts of strings.
 
 ghost use Rattle.std.specs.Prelude.{◌≡◌, ◌<◌, ◌≤◌, ◌-◌, IfOk, pos, length, take, drop};
-ghost use Rattle.std.specs.{Fmt.signed_decimal, Str.bytes_eq};
+ghost use Rattle.std.specs.Fmt.{signed_decimal};
 ghost use Rattle.et_base.specs.Numbers as numbers;
 ghost use Rattle.jvm_model.specs.NativesString as natives;
 ghost use Rattle.jvm_model.specs.Working as working;
@@ -32,33 +32,25 @@ pub fn hash_of(text: &[u16]) -> i32
     hash.cast_signed()
 }
 
-/// Whether two texts are the same.
-pub fn same_text(text: &[u16], other: &[u16]) -> bool
-    ensures { result ≡ bytes_eq text.now other.now }
+/// The units from the first place up to but not the second, or to the end; None where places are out of range or in the
+/// wrong order.
+pub fn part_of(
+    alloc: Global,
+    text: &[u16],
+    from: i32,
+    to: Option<i32>,
+) -> Result<Option<Units>, NoMemory>
+    ensures { IfOk result (λ part. part ≡ parts.part_of text.now from (parts.end_of text.now to)) }
 {
-    text == other
-}
-
-/// The units from the first place up to but not the second; None where places are out of range or in the wrong order.
-pub fn part_of(alloc: Global, text: &[u16], from: i32, to: i32) -> Result<Option<Units>, NoMemory>
-    ensures { IfOk result (λ part. part ≡ parts.part_of text.now from to) }
-{
-    if from < 0 || to < from || text.len() < to as usize {
+    let end = match to {
+        None => text.len(),
+        Some(to) if to < 0 => return Ok(None),
+        Some(to) => to as usize,
+    };
+    if from < 0 || end < from as usize || text.len() < end {
         return Ok(None);
     }
-    let part = &text[from as usize..to as usize];
-    Ok(Some(Units::from_slice(alloc, part)?))
-}
-
-/// The units from a place on; None where it is out of range.
-pub fn part_from(alloc: Global, text: &[u16], from: i32) -> Result<Option<Units>, NoMemory>
-    ensures { IfOk result (λ part. part ≡ parts.part_of text.now from (pos (length text.now))) }
-{
-    if from < 0 || text.len() < from as usize {
-        return Ok(None);
-    }
-    let part = &text[from as usize..];
-    Ok(Some(Units::from_slice(alloc, part)?))
+    Ok(Some(Units::from_slice(alloc, &text[from as usize..end])?))
 }
 
 /// An int in decimal digits, with `-` before one below 0.

@@ -4,9 +4,9 @@ ghost use Rattle.jvm_model.specs.declared.library.Native.{Native};
 ghost use Rattle.vm_mem.specs.Refines.{IsReady, IsNext, Makes};
 ghost use Rattle.vm_natives.specs.Rows.{with_own, throwable_row, kept_row, told_row};
 
-use crate::working::{answer, end};
+use crate::working::{NULL_FAULT, answer, end};
 use et_base::{NoMemory, Units};
-use jvm_model::{Head, Kind, MESSAGE, NULL_POINTER_EXCEPTION, Next, Own, Program, STRING, Value};
+use jvm_model::{Head, Kind, MESSAGE, Next, Own, Program, STRING, Value};
 use std::alloc::Global;
 use vm_frames::FrameStack;
 use vm_mem::Memory;
@@ -39,12 +39,8 @@ pub fn keep_message<M: Memory>(
             *left -= 1;
             Ok(Next::Go)
         }
-        Value::Null => Ok(Next::Fault {
-            class: NULL_POINTER_EXCEPTION,
-        }),
-        Value::Int(_) => unreachable!(),
-        Value::Long(_) => unreachable!(),
-        Value::Lit(_) => unreachable!(),
+        Value::Null => Ok(NULL_FAULT),
+        Value::Int(_) | Value::Long(_) | Value::Lit(_) => unreachable!(),
     }
 }
 
@@ -70,12 +66,8 @@ pub fn get_message<M: Memory>(
             let message = memory.get_field(object, MESSAGE)?;
             Ok(answer(stack, p, message, next, left))
         }
-        Value::Null => Ok(Next::Fault {
-            class: NULL_POINTER_EXCEPTION,
-        }),
-        Value::Int(_) => unreachable!(),
-        Value::Long(_) => unreachable!(),
-        Value::Lit(_) => unreachable!(),
+        Value::Null => Ok(NULL_FAULT),
+        Value::Int(_) | Value::Long(_) | Value::Lit(_) => unreachable!(),
     }
 }
 
@@ -118,8 +110,7 @@ pub fn assertion_object<M: Memory>(
             }
             keep_message(stack, memory, p, own, receiver, argument, next, left)
         }
-        Value::Int(_) => unreachable!(),
-        Value::Long(_) => unreachable!(),
+        Value::Int(_) | Value::Long(_) => unreachable!(),
     }
 }
 
@@ -156,11 +147,7 @@ pub fn make_message<M: Memory>(
             *left -= cost;
             Ok(Next::Go)
         }
-        Value::Null => Ok(Next::Fault {
-            class: NULL_POINTER_EXCEPTION,
-        }),
-        Value::Int(_) => unreachable!(),
-        Value::Long(_) => unreachable!(),
-        Value::Lit(_) => unreachable!(),
+        Value::Null => Ok(NULL_FAULT),
+        Value::Int(_) | Value::Long(_) | Value::Lit(_) => unreachable!(),
     }
 }

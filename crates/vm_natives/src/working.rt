@@ -8,9 +8,21 @@ ghost use Rattle.vm_mem.specs.Refines.{IsNext, Refines, Makes};
 ghost use Rattle.vm_natives.specs.Rows.{with_own, end_row, value_row, costly_row, text_row};
 
 use et_base::{NoMemory, Units};
-use jvm_model::{Head, Kind, Next, Own, Program, STRING, Value};
+use jvm_model::{
+    Head, Kind, NULL_POINTER_EXCEPTION, Next, Own, Program, STRING, STRING_INDEX_EXCEPTION, Value,
+};
 use vm_frames::FrameStack;
 use vm_mem::Memory;
+
+/// A null receiver or argument throws.
+pub const NULL_FAULT: Next = Next::Fault {
+    class: NULL_POINTER_EXCEPTION,
+};
+
+/// A place that is out of a text's range throws.
+pub const INDEX_FAULT: Next = Next::Fault {
+    class: STRING_INDEX_EXCEPTION,
+};
 
 /// The call is over without an answer. It counts the 1 of the step. Over, with nothing done, where no unit is left.
 pub fn end(stack: &mut FrameStack, p: &Program, next: u32, left: &mut u64) -> Next
