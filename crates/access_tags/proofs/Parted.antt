@@ -17,7 +17,8 @@ use Rattle.access_tags.specs.Cells.{Apart, AreFresh, chain, tag_by}
 use Rattle.access_tags.specs.{Counted.Counts, Counted.HaveCounted, HaveEnded.HaveEnded}
 use Rattle.access_tags.specs.Numbering.{Numbering, conflicts_in, located, is_name, tag_at, view, ArePlaced, locations, is_at}
 use Rattle.access_tags.specs.Intervals.{part_at, parts_to, parts_of, parts, spot_in}
-use Rattle.access_tags.proofs.{Chains.chain_end, Numbered.changed, Numbered.any_location, Spanned.to_more, Spanned.parts_more}
+use Rattle.access_tags.proofs.{Chains.chain_end, Marks.same_self, Spanned.to_more, Spanned.parts_more}
+use Rattle.access_tags.proofs.Numbered.{changed, any_location, tag_there}
 
 -- two lists, one after the other
 placed_left : (n : Numbering) (xs ys : List Touched) → ArePlaced n (xs ++ ys) → ArePlaced n xs
@@ -44,27 +45,18 @@ apart_both L (M ∷ ls) ms a e = elim (cases_Bool (same L M)) [
   | inr s ↦ apart_both L ls ms a.1 (rw s at e)
 ]
 
+-- nor the other way round
+apart_other : (L : Location) (ls ms : List Location) → Apart same (ls ++ ms) → list_any (same L) ms ≡ true → list_any (same L) ls ≡ false
+apart_other L ls ms a e = elim (cases_Bool (list_any (same L) ls)) [
+  | inl s ↦ absurd (let f = apart_both L ls ms a s in cc)
+  | inr s ↦ s
+]
+
 both_sides : (a b : Bool) (t : ℕ) (x y z : Tag) → (a ≡ true → b ≡ false) → y ≡ cond a (ended t x) x → z ≡ cond b (ended t y) y → z ≡ cond (a || b) (ended t x) x
 both_sides true true t x y z h e f = absurd (let q = h refl in cc)
 both_sides true false t x y z h e f = f ∙ e
 both_sides false true t x y z h e f = f ∙ ap (λ (g : Tag). ended t g) e
 both_sides false false t x y z h e f = f ∙ e
-
-module _ (t : ℕ) where
-  pub ended_one : (c d e f : ℕ → Tag) (x : Touched) → ((l : ℕ) → e l ≡ cond (not (is_name x.spot) && nat_eq l x.at) (ended t (c x.at)) (c l)) →
-      ((l : ℕ) → f l ≡ cond (is_name x.spot && nat_eq l x.at) (ended t (d x.at)) (d l)) → HaveEnded t c d e f (x ∷ [])
-  ended_one c d e f x g h n p a L = changed n x (λ (z : Tag). ended t z) c d e f p.0 g h L ∙ elim (cases_Bool (is_at n L x)) [
-    | inl b ↦ rw b (ap (λ (M : Location). ended t (view n c d M)) (sym (same_true L (located n.names x.spot) b)))
-    | inr b ↦ rw b refl
-  ]
-
-  pub ended_after : (c d e f g h : ℕ → Tag) (xs ys : List Touched) → HaveEnded t c d e f xs → HaveEnded t e f g h ys → HaveEnded t c d g h (xs ++ ys)
-  ended_after c d e f g h xs ys u v n p a L =
-      let b = subst (λ (ls : List Location). Apart same ls) (map-append (λ (x : Touched). located n.names x.spot) xs ys) a in
-      both_sides (list_any (is_at n L) xs) (list_any (is_at n L) ys) t (view n c d L) (view n e f L) (view n g h L)
-      (λ q. any_location n L ys ∙ apart_both L (locations n xs) (locations n ys) b (sym (any_location n L xs) ∙ q))
-      (u n (placed_left n xs ys p) (apart_left (locations n xs) (locations n ys) b) L) (v n (placed_right n xs ys p) (apart_right (locations n xs) (locations n ys) b) L)
-      ∙ ap (λ (q : Bool). cond q (ended t (view n c d L)) (view n c d L)) (sym (list_any-append (is_at n L) xs ys))
 
 -- conflicts that are counted
 pub counted_none : (a : Table) → HaveCounted a a []
@@ -72,6 +64,53 @@ counted_none a = record { later = refl; counts = λ hs k. subst (λ (xs : List (
 
 pub counted_after : (a b c : Table) (xs ys : List (Conflict LocationKey)) → HaveCounted a b xs → HaveCounted b c ys → HaveCounted a c (xs ++ ys)
 counted_after a b c xs ys f g = record { later = g.later ∙ f.later; counts = λ hs k. subst (λ (zs : List (Conflict LocationKey)). Counts c zs) (append_assoc hs xs ys) (g.counts (hs ++ xs) (f.counts hs k)) }
+
+-- the conflicts at parts whose tags are the same
+same_conflicts : (n : Numbering) (c d e f : ℕ → Tag) (ys : List Touched) → ArePlaced n ys → ((L : Location) → list_any (same L) (locations n ys) ≡ true → view n e f L ≡ view n c d L) → conflicts_in e f ys ≡ conflicts_in c d ys
+same_conflicts n c d e f [] p h = refl
+same_conflicts n c d e f (y ∷ ys) p h =
+    let M = located n.names y.spot in
+    let g : tag_at e f y ≡ tag_at c d y = tag_there n e f y p.0 ∙ (h M (ap (λ (b : Bool). b || list_any (same M) (locations n ys)) (same_self M M refl)) ∙ sym (tag_there n c d y p.0)) in
+    ap (λ (z : Tag). conflicts_at y.spot z ++ conflicts_in e f ys) g
+    ∙ ap (λ (hs : List (Conflict LocationKey)). conflicts_at y.spot (tag_at c d y) ++ hs) (same_conflicts n c d e f ys p.1 (λ L q. h L (either (same L M) q)))
+  where
+    either : (b : Bool) {v : Bool} → v ≡ true → (b || v) ≡ true
+    either true q = refl
+    either false q = q
+
+module _ (t : ℕ) where
+  pub ended_none : (c d : ℕ → Tag) (a : Table) → HaveEnded t c d c d a a []
+  ended_none c d a n p q = record { tags = λ L. refl; counted = counted_none a }
+
+  pub ended_first : (c d : ℕ → Tag) (a : Table) (s : Interval) → HaveEnded t c d c d a a (parts_to s s.first)
+  ended_first c d a s = let e : s.first - s.first ≡ 0 = omega arith in
+      subst (λ (k : ℕ). HaveEnded t c d c d a a (map (λ i. part_at s i) (range_with_len s.first k))) (sym e) (ended_none c d a)
+
+  pub ended_one : (c d e f : ℕ → Tag) (a b : Table) (x : Touched) → ((l : ℕ) → e l ≡ cond (not (is_name x.spot) && nat_eq l x.at) (ended t (c x.at)) (c l)) →
+      ((l : ℕ) → f l ≡ cond (is_name x.spot && nat_eq l x.at) (ended t (d x.at)) (d l)) → HaveCounted a b (conflicts_at x.spot (tag_at c d x)) → HaveEnded t c d e f a b (x ∷ [])
+  ended_one c d e f a b x g h k n p q = record {
+    tags = λ L. changed n x (λ (z : Tag). ended t z) c d e f p.0 g h L ∙ elim (cases_Bool (is_at n L x)) [
+      | inl s ↦ rw s (ap (λ (M : Location). ended t (view n c d M)) (sym (same_true L (located n.names x.spot) s)))
+      | inr s ↦ rw s refl
+    ];
+    counted = subst (λ (hs : List (Conflict LocationKey)). HaveCounted a b hs) (sym (append-nil (conflicts_at x.spot (tag_at c d x)))) k;
+  }
+
+  pub ended_after : (c d e f g h : ℕ → Tag) (a b b' : Table) (xs ys : List Touched) → HaveEnded t c d e f a b xs → HaveEnded t e f g h b b' ys → HaveEnded t c d g h a b' (xs ++ ys)
+  ended_after c d e f g h a b b' xs ys u v n p q =
+      let r = subst (λ (ls : List Location). Apart same ls) (map-append (λ (x : Touched). located n.names x.spot) xs ys) q in
+      let ls = locations n xs in
+      let ms = locations n ys in
+      let x = u n (placed_left n xs ys p) (apart_left ls ms r) in
+      let y = v n (placed_right n xs ys p) (apart_right ls ms r) in
+      let s = same_conflicts n c d e f ys (placed_right n xs ys p) (λ L k. x.tags L ∙ ap (λ (z : Bool). cond z (ended t (view n c d L)) (view n c d L)) (any_location n L xs ∙ apart_other L ls ms r k)) in
+      record {
+        tags = λ L. both_sides (list_any (is_at n L) xs) (list_any (is_at n L) ys) t (view n c d L) (view n e f L) (view n g h L)
+            (λ k. any_location n L ys ∙ apart_both L ls ms r (sym (any_location n L xs) ∙ k)) (x.tags L) (y.tags L)
+            ∙ ap (λ (z : Bool). cond z (ended t (view n c d L)) (view n c d L)) (sym (list_any-append (is_at n L) xs ys));
+        counted = subst (λ (hs : List (Conflict LocationKey)). HaveCounted a b' hs) (sym (flat_map-append (λ (x : Touched). conflicts_at x.spot (tag_at c d x)) xs ys))
+            (counted_after a b b' (conflicts_in c d xs) (conflicts_in c d ys) x.counted (subst (λ (hs : List (Conflict LocationKey)). HaveCounted b b' hs) s y.counted));
+      }
 
 -- where no test wrote or read, there are no conflicts
 no_conflicts : (x : LocationKey) (p : Past) (rs : List Reader) (m : Mark) → (nat_eq p.writer 0 && nat_eq p.readers 0) ≡ true → conflicts_at x (tag_by p rs m) ≡ []
@@ -119,9 +158,9 @@ module _ (f : Touched → List (Conflict LocationKey)) (a b c : Table) where
       (sym (ap (λ (xs : List Touched). flat_map f xs) (parts_more ss i d h) ∙ flat_map-append f (parts (take i ss)) (parts_of (get_or ss i d))))
       (counted_after a b c (flat_map f (parts (take i ss))) (flat_map f (parts_of (get_or ss i d))) u v)
 
-module _ (t : ℕ) (c d e f g h : ℕ → Tag) where
-  pub ended_to : (s : Interval) (i : ℕ) → s.first ≤ i → HaveEnded t c d e f (parts_to s i) → HaveEnded t e f g h (part_at s i ∷ []) → HaveEnded t c d g h (parts_to s (i + 1))
-  ended_to s i l u v = subst (λ (xs : List Touched). HaveEnded t c d g h xs) (sym (to_more s i l)) (ended_after t c d e f g h (parts_to s i) (part_at s i ∷ []) u v)
+module _ (t : ℕ) (c d e f g h : ℕ → Tag) (a b b' : Table) where
+  pub ended_to : (s : Interval) (i : ℕ) → s.first ≤ i → HaveEnded t c d e f a b (parts_to s i) → HaveEnded t e f g h b b' (part_at s i ∷ []) → HaveEnded t c d g h a b' (parts_to s (i + 1))
+  ended_to s i l u v = subst (λ (xs : List Touched). HaveEnded t c d g h a b' xs) (sym (to_more s i l)) (ended_after t c d e f g h a b b' (parts_to s i) (part_at s i ∷ []) u v)
 
-  pub ended_parts : (ss : List Interval) (i : ℕ) (k : Interval) → i < length ss → HaveEnded t c d e f (parts (take i ss)) → HaveEnded t e f g h (parts_of (get_or ss i k)) → HaveEnded t c d g h (parts (take (i + 1) ss))
-  ended_parts ss i k l u v = subst (λ (xs : List Touched). HaveEnded t c d g h xs) (sym (parts_more ss i k l)) (ended_after t c d e f g h (parts (take i ss)) (parts_of (get_or ss i k)) u v)
+  pub ended_parts : (ss : List Interval) (i : ℕ) (k : Interval) → i < length ss → HaveEnded t c d e f a b (parts (take i ss)) → HaveEnded t e f g h b b' (parts_of (get_or ss i k)) → HaveEnded t c d g h a b' (parts (take (i + 1) ss))
+  ended_parts ss i k l u v = subst (λ (xs : List Touched). HaveEnded t c d g h a b' xs) (sym (parts_more ss i k l)) (ended_after t c d e f g h a b b' (parts (take i ss)) (parts_of (get_or ss i k)) u v)

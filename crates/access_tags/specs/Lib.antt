@@ -7,10 +7,10 @@ pub mod Unread
 pub mod Intervals
 pub mod AccessLogs
 pub mod Stands
-pub mod HaveEnded
 pub mod Spots
 pub mod Rows
 pub mod Counted
+pub mod HaveEnded
 pub mod Worlds
 pub mod Ran
 pub mod Followed

@@ -1,6 +1,6 @@
 //! The tags of numbered locations.
 
-ghost use Rattle.std.specs.Prelude.{◌≡◌, ◌+◌, ◌<◌, ◌≤◌, ◌^◌, ℕ, [], ◌∷◌, ◌++◌, length, map, reverse, cond, nat_eq, IfOk, OnOk, OnErr, true};
+ghost use Rattle.std.specs.Prelude.{◌≡◌, ◌+◌, ◌<◌, ◌≤◌, ◌^◌, ℕ, [], ◌∷◌, ◌++◌, length, get_or, map, reverse, cond, nat_eq, IfOk, OnOk, OnErr, true};
 ghost use Rattle.order_law.specs.declared.edges.EdgeKind.TheVariants as kinds;
 ghost use Rattle.access_tags.specs.Tag.{conflict, conflicts_at, with_writer};
 ghost use Rattle.access_tags.specs.Counted.{HaveCounted};
@@ -25,6 +25,7 @@ pub struct Cells {
 }
 
 impl Cells {
+    ghost use Rattle.access_tags.specs.{Tag.no_mark, Cells.no_past};
     ghost use Rattle.access_tags.specs.Tag.{no_tag, noted, ended, is_new};
     ghost use Rattle.access_tags.specs.Shelf.{tag_in, count};
 
@@ -104,22 +105,32 @@ impl Cells {
             return Ok(());
         }
         let past = self.pasts.get(at);
-        if past.is_none() {
-            return Ok(());
-        }
         let mark = self.marks.get(at);
         count_past(table, &self.readers, mark, past, place)
     }
 
-    /// The running test, with this number, ended: what it did at the location joins what earlier tests did there.
-    pub fn fold(&mut self, at: u64, test: u32) -> Result<(), NoMemory>
+    /// The running test, with this number, ended: its conflicts at a location, which is shown as `place`, are counted, and
+    /// what it did there joins what earlier tests did.
+    #[inline(always)]
+    pub fn end_at(
+        &mut self,
+        at: u64,
+        place: LocationKey,
+        test: u32,
+        table: &mut Table,
+    ) -> Result<(), NoMemory>
         requires { at < count self.old }
+        ensures counted { OnOk result (HaveCounted table.old table.new (conflicts_at place (tag_in self.old at))) }
         ensures count { count self.new ≡ count self.old }
         ensures tags { OnOk result ((l : ℕ) → tag_in self.new l
             ≡ cond (nat_eq l at) (ended test (tag_in self.old at)) (tag_in self.old l)) }
     {
         self.reach(at)?;
-        self.settle(at, test)
+        let mark = self.marks.get(at);
+        let past = self.pasts.get(at);
+        count_past(table, &self.readers, mark, past, place)?;
+        self.settle(at, test, mark, past)?;
+        Ok(())
     }
 
     /// Makes room for what tests that ended did at a location: where there is none, for all locations.
@@ -139,17 +150,19 @@ impl Cells {
         Ok(())
     }
 
-    /// The same where there is room for what tests that ended did at the location.
+    /// What the running test did at a location joins what earlier tests did there, where there is room for it: its mark
+    /// there is `mark`, and what the earlier ones did `past`.
     #[inline(always)]
     #[tactic(auto, using(crate::proofs::Settle::written_look, crate::proofs::Settle::exposed_look, crate::proofs::Settle::clear_look, crate::proofs::Settle::written_cells, crate::proofs::Settle::exposed_cells, crate::proofs::Settle::marked_cells))]
-    fn settle(&mut self, at: u64, test: u32) -> Result<(), NoMemory>
+    fn settle(&mut self, at: u64, test: u32, mark: Mark, past: Past) -> Result<(), NoMemory>
         requires room { at < length self.old.pasts }
         requires there { at < count self.old }
+        requires mark { mark ≡ get_or self.old.marks at no_mark }
+        requires past { past ≡ get_or self.old.pasts at no_past }
         ensures count { count self.new ≡ count self.old }
         ensures tags { OnOk result ((l : ℕ) → tag_in self.new l
             ≡ cond (nat_eq l at) (ended test (tag_in self.old at)) (tag_in self.old l)) }
     {
-        let mark = self.marks.get(at);
         self.marks.set(at, Mark::NONE);
         if mark.written {
             self.pasts.set(
@@ -162,7 +175,6 @@ impl Cells {
             return Ok(());
         }
         if mark.exposed {
-            let past = self.pasts.get(at);
             let reader = Reader {
                 test,
                 next: past.readers,
@@ -195,6 +207,9 @@ fn count_past(
     ensures { OnOk result (HaveCounted table.old table.new
         (conflicts_at place (tag_by past (reverse readers.now) mark))) }
 {
+    if past.is_none() {
+        return Ok(());
+    }
     if mark.exposed {
         count_writer(table, EdgeKind::Raw, place, past.writer)?;
     }

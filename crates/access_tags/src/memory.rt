@@ -241,9 +241,16 @@ impl<const WALKS: bool> Memory for TaggedMemory<WALKS> {
             self.test = test;
             return Ok(());
         }
-        let ended = self.summary()?;
-        self.ended.push(ended)?;
-        self.tags.end_test(self.test)?;
+        let alone = self.tags.reads_static_alone(OUT);
+        let mut rows = Items::new(self.alloc);
+        self.tags.end_test(self.alloc, self.test, &mut rows)?;
+        let walks = self.walks(rows.as_slice())?;
+        self.ended.push(Ended {
+            rows,
+            walks,
+            size: self.numbers.objects(),
+            alone,
+        })?;
         self.test = test;
         Ok(())
     }

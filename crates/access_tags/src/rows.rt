@@ -50,7 +50,9 @@ impl Row {
             return Err(NoMemory {});
         };
         if self.count < SHOWN {
-            self.spots.push(alloc, spot)?;
+            // a copy, so that the place stays in registers where the row shows no more
+            let shown = spot;
+            self.spots.push(alloc, shown)?;
         }
         self.count = count;
         Ok(())

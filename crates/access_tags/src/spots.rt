@@ -62,7 +62,9 @@ impl Spots {
             self.held = Held::Here([spot]);
             return Ok(());
         }
-        push_behind(&mut self.held, alloc, spot)
+        // a copy, so that the first location stays in registers
+        let next = spot;
+        push_behind(&mut self.held, alloc, next)
     }
 }
 

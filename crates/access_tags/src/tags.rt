@@ -209,14 +209,24 @@ impl Tags {
         true
     }
 
-    /// The running test, with this number, ended.
-    pub fn end_test(&mut self, test: u32) -> Result<(), NoMemory>
+    /// The running test, with this number, ended: its rows are added as `push_rows` adds them.
+    pub fn end_test(
+        &mut self,
+        alloc: Global,
+        test: u32,
+        rows: &mut Items<Row>,
+    ) -> Result<(), NoMemory>
+        requires { 0 < test }
         ensures cells { count self.new.cells ≡ count self.old.cells }
         ensures named { count self.new.named ≡ count self.old.named }
+        ensures rows { OnOk result ((n : Numbering) (T : Touches) (t : ℕ) (ts : List Touch) (p : Program) (by : ℕ → ℕ × ℕ) → test ≡ suc t → T test ≡ ts → Stands n T t ts self.old
+            → (xs : List Found) × (rows.new ≡ rows.old ++ xs) × (map (shown_by p by n.names test) xs ≡ map (with_places T test) (edges_at p T by test))) }
         ensures stands { OnOk result ((n : Numbering) (T : Touches) (t : ℕ) (ts : List Touch) → test ≡ suc t → T test ≡ ts → Stands n T t ts self.old → Stands n T test [] self.new) }
     {
         self.reads = true;
-        settle_all(&mut self.cells, &mut self.named, &self.touched, test)?;
+        let mut table = Table::new(alloc, test)?;
+        end_all(&mut self.cells, &mut self.named, &self.touched, test, &mut table)?;
+        table.hand_on(rows)?;
         self.touched.clear();
         self.reads = false;
         Ok(())
@@ -248,19 +258,28 @@ fn note(cells: &mut Cells, named: &mut Cells, spot: LocationKey, at: u64, write:
     }
 }
 
-/// What a test did at a part joins what earlier tests did there.
-fn fold(cells: &mut Cells, named: &mut Cells, part: Touched, test: u32) -> Result<(), NoMemory>
+/// Counts the conflicts at a part; then what the test did there joins what earlier tests did.
+#[inline(always)]
+fn end_part(
+    cells: &mut Cells,
+    named: &mut Cells,
+    part: Touched,
+    test: u32,
+    table: &mut Table,
+) -> Result<(), NoMemory>
     requires { part.at < room cells.old named.old part.spot }
     ensures cells_count { count cells.new ≡ count cells.old }
     ensures named_count { count named.new ≡ count named.old }
+    ensures counted { OnOk result (HaveCounted table.old table.new
+        (conflicts_at part.spot (tag_at (tag_in cells.old) (tag_in named.old) part))) }
     ensures cells { OnOk result ((l : ℕ) → tag_in cells.new l
         ≡ cond (not (is_name part.spot) && nat_eq l part.at) (ended test (tag_in cells.old part.at)) (tag_in cells.old l)) }
     ensures named { OnOk result ((l : ℕ) → tag_in named.new l
         ≡ cond (is_name part.spot && nat_eq l part.at) (ended test (tag_in named.old part.at)) (tag_in named.old l)) }
 {
     match part.spot {
-        LocationKey::Named { .. } => named.fold(part.at, test),
-        _ => cells.fold(part.at, test),
+        LocationKey::Named { .. } => named.end_at(part.at, part.spot, test, table),
+        _ => cells.end_at(part.at, part.spot, test, table),
     }
 }
 
@@ -366,41 +385,45 @@ fn count_all(
     Ok(())
 }
 
-/// What a test did at the parts of an interval joins what earlier tests did there.
-fn fold_interval(
+/// Counts the conflicts at the parts of an interval, and what a test did there joins what earlier tests did.
+fn end_interval(
     cells: &mut Cells,
     named: &mut Cells,
     interval: Interval,
     test: u32,
+    table: &mut Table,
 ) -> Result<(), NoMemory>
     requires within { AreWithin cells.old named.old (parts_of interval) }
     requires order { interval.first ≤ interval.end }
     ensures cells_count { count cells.new ≡ count cells.old }
     ensures named_count { count named.new ≡ count named.old }
-    ensures tags { OnOk result (HaveEnded test (tag_in cells.old) (tag_in named.old)
-        (tag_in cells.new) (tag_in named.new) (parts_of interval)) }
+    ensures later { OnOk result (table.new.later ≡ table.old.later) }
+    ensures ended { OnOk result (HaveEnded test (tag_in cells.old) (tag_in named.old)
+        (tag_in cells.new) (tag_in named.new) table.old table.new (parts_of interval)) }
 {
     for index in interval.first..interval.end {
-        fold(cells, named, interval.part(index), test)?;
+        end_part(cells, named, interval.part(index), test, table)?;
     }
     Ok(())
 }
 
-/// What a test did at the parts that it touched joins what earlier tests did there.
-fn settle_all(
+/// Counts the conflicts at the parts that a test touched, and what it did there joins what earlier tests did.
+fn end_all(
     cells: &mut Cells,
     named: &mut Cells,
     touched: &AccessLog,
     test: u32,
+    table: &mut Table,
 ) -> Result<(), NoMemory>
     requires { AreWithin cells.old named.old (parts touched.now.intervals) }
     ensures cells_count { count cells.new ≡ count cells.old }
     ensures named_count { count named.new ≡ count named.old }
-    ensures tags { OnOk result (HaveEnded test (tag_in cells.old) (tag_in named.old)
-        (tag_in cells.new) (tag_in named.new) (parts touched.now.intervals)) }
+    ensures later { OnOk result (table.new.later ≡ table.old.later) }
+    ensures ended { OnOk result (HaveEnded test (tag_in cells.old) (tag_in named.old)
+        (tag_in cells.new) (tag_in named.new) table.old table.new (parts touched.now.intervals)) }
 {
     for i in 0..touched.len() {
-        fold_interval(cells, named, touched.get(i), test)?;
+        end_interval(cells, named, touched.get(i), test, table)?;
     }
     Ok(())
 }

@@ -1,10 +1,13 @@
-use Rattle.std.proofs.Common.{◌++◌, [], map, reverse, cond, sym, subst}
+use Rattle.std.proofs.Common.{◌++◌, ◌∙◌, [], map, reverse, cond, sym, subst}
 use Rattle.order_law.specs.declared.edges.EdgeKind.TheVariants as kinds
 use Rattle.access_tags.specs.declared.table.Table.{Table}
 use Rattle.access_tags.specs.{Tag.conflict, Tag.with_writer, Cells.chain, Counted.HaveCounted}
-use Rattle.access_tags.proofs.Parted.{counted_after, counted_none}
+use Rattle.access_tags.proofs.Parted.{counted_after, counted_none, counted_there}
 use Rattle.access_tags.proofs.cells.count_past.Goals.{then-mark+in_ok-count_writer, else-mark}
 use Rattle.access_tags.proofs.cells.count_past.Goals as goal
+
+pub returns-then-is_none : goal.returns-then-is_none
+returns-then-is_none c = let o = c.args in counted_there o.table.now o.place o.past (reverse o.readers.now) o.mark (sym c.is_none.ensures ∙ c.if-is_none.true)
 
 pub returns-in_ok-count_readers : goal.returns-in_ok-count_readers
 returns-in_ok-count_readers c =
