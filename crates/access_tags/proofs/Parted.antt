@@ -113,18 +113,6 @@ module _ (t : ℕ) where
       }
 
 -- where no test wrote or read, there are no conflicts
-no_conflicts : (x : LocationKey) (p : Past) (rs : List Reader) (m : Mark) → (nat_eq p.writer 0 && nat_eq p.readers 0) ≡ true → conflicts_at x (tag_by p rs m) ≡ []
-no_conflicts x p rs m h =
-    let both = and_parts (nat_eq p.writer 0) (nat_eq p.readers 0) h in
-    let w = both.0 in
-    let r = eqb-true p.readers 0 both.1 in
-    let e : chain rs p.readers ≡ [] = ap (λ (n : ℕ). chain rs n) r ∙ chain_end rs in
-    rw w (rw e (elim (cases_Bool m.exposed) [
-      | inl a ↦ rw a (elim (cases_Bool m.written) [ inl b ↦ rw b refl | inr b ↦ rw b refl ])
-      | inr a ↦ rw a (elim (cases_Bool m.written) [ inl b ↦ rw b refl | inr b ↦ rw b refl ])
-    ]))
-
--- no test that ended touched the parts of an interval
 fresh_at : (x : LocationKey) (g : Tag) → g.writer ≡ 0 → g.readers ≡ [] → conflicts_at x g ≡ []
 fresh_at x g w r = rw w (rw r (elim (cases_Bool g.mark.exposed) [
   | inl a ↦ rw a (elim (cases_Bool g.mark.written) [ inl b ↦ rw b refl | inr b ↦ rw b refl ])
@@ -134,6 +122,11 @@ fresh_at x g w r = rw w (rw r (elim (cases_Bool g.mark.exposed) [
 pub counted_fresh : (t : Table) (x : LocationKey) (g : Tag) → g.writer ≡ 0 → g.readers ≡ [] → HaveCounted t t (conflicts_at x g)
 counted_fresh t x g w r = subst (λ (xs : List (Conflict LocationKey)). HaveCounted t t xs) (sym (fresh_at x g w r)) (counted_none t)
 
+pub counted_there : (t : Table) (x : LocationKey) (p : Past) (rs : List Reader) (m : Mark) → (nat_eq p.writer 0 && nat_eq p.readers 0) ≡ true → HaveCounted t t (conflicts_at x (tag_by p rs m))
+counted_there t x p rs m h = let both = and_parts (nat_eq p.writer 0) (nat_eq p.readers 0) h in
+    counted_fresh t x (tag_by p rs m) (eqb-true p.writer 0 both.0) (ap (λ (n : ℕ). chain rs n) (eqb-true p.readers 0 both.1) ∙ chain_end rs)
+
+-- no test that ended touched the parts of an interval
 none_of : (f : Touched → List (Conflict LocationKey)) (s : Interval) → ((i : ℕ) → f (part_at s i) ≡ []) → (is : List ℕ) → flat_map f (map (λ i. part_at s i) is) ≡ []
 none_of f s h [] = refl
 none_of f s h (i ∷ is) = rw (h i) (none_of f s h is)
@@ -142,9 +135,6 @@ pub fresh_parts : (c d : ℕ → Tag) (s : Interval) → ((i : ℕ) → is_name 
 fresh_parts c d s h k = none_of (λ x. conflicts_at x.spot (tag_at c d x)) s
     (λ i. rw (h i) (let g = k (s.at + (i - s.first)) (omega arith) in fresh_at (spot_in s.sort s.object i) (c (s.at + (i - s.first))) g.0 g.1))
     (range_with_len s.first (s.end - s.first))
-
-pub counted_there : (t : Table) (x : LocationKey) (p : Past) (rs : List Reader) (m : Mark) → (nat_eq p.writer 0 && nat_eq p.readers 0) ≡ true → HaveCounted t t (conflicts_at x (tag_by p rs m))
-counted_there t x p rs m h = subst (λ (xs : List (Conflict LocationKey)). HaveCounted t t xs) (sym (no_conflicts x p rs m h)) (counted_none t)
 
 -- one part or one interval more
 module _ (f : Touched → List (Conflict LocationKey)) (a b c : Table) where

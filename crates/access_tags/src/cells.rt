@@ -2,9 +2,9 @@
 
 ghost use Rattle.std.specs.Prelude.{◌≡◌, ◌+◌, ◌<◌, ◌≤◌, ◌^◌, ℕ, [], ◌∷◌, ◌++◌, length, get_or, map, reverse, cond, nat_eq, IfOk, OnOk, OnErr, true};
 ghost use Rattle.order_law.specs.declared.edges.EdgeKind.TheVariants as kinds;
-ghost use Rattle.access_tags.specs.Tag.{conflict, conflicts_at, with_writer};
+ghost use Rattle.access_tags.specs.Tag.{conflict, conflicts_at, no_mark, with_writer};
 ghost use Rattle.access_tags.specs.Counted.{HaveCounted};
-ghost use Rattle.access_tags.specs.Cells.{AreCells, AreDown, AreFresh, IsLinked, chain, tag_by};
+ghost use Rattle.access_tags.specs.Cells.{AreCells, AreDown, AreFresh, IsLinked, chain, no_past, tag_by};
 
 use crate::conflict::{Conflict, LocationKey};
 use crate::mark::{Mark, Past, Reader};
@@ -25,7 +25,6 @@ pub struct Cells {
 }
 
 impl Cells {
-    ghost use Rattle.access_tags.specs.{Tag.no_mark, Cells.no_past};
     ghost use Rattle.access_tags.specs.Tag.{no_tag, noted, ended, is_new};
     ghost use Rattle.access_tags.specs.Shelf.{tag_in, count};
 

@@ -132,7 +132,7 @@ impl Tags {
         }
     }
 
-    /// One more read of a field, which may change its tag.
+    /// One more read of a field, which may change its tag. Its numbers are arguments, so that no location stands in memory.
     #[inline(never)]
     fn note_field_read(&mut self, object: u64, field: u32, at: u64) -> Result<(), NoMemory>
         ensures cells { count self.new.cells ≡ count self.old.cells }
@@ -142,7 +142,7 @@ impl Tags {
         self.note_first(LocationKey::Field { object, field }, at, false)
     }
 
-    /// One more read of an element, which may change its tag.
+    /// One more read of an element, which may change its tag. Its numbers are arguments, so that no location stands in memory.
     #[inline(never)]
     fn note_elem_read(&mut self, object: u64, index: u32, at: u64) -> Result<(), NoMemory>
         ensures cells { count self.new.cells ≡ count self.old.cells }
