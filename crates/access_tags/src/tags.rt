@@ -225,7 +225,13 @@ impl Tags {
     {
         self.reads = true;
         let mut table = Table::new(alloc, test)?;
-        end_all(&mut self.cells, &mut self.named, &self.touched, test, &mut table)?;
+        end_all(
+            &mut self.cells,
+            &mut self.named,
+            &self.touched,
+            test,
+            &mut table,
+        )?;
         table.hand_on(rows)?;
         self.touched.clear();
         self.reads = false;

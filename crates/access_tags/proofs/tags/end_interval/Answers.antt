@@ -1,6 +1,6 @@
-use Rattle.std.proofs.Common.{[], ◌∷◌, ◌<◌, ◌∙◌, arith, refl, sym, subst}
+use Rattle.std.proofs.Common.{◌≡◌, ℕ, [], ◌∷◌, ◌<◌, ◌∙◌, arith, refl, sym, subst}
 use Rattle.access_tags.specs.declared.conflict.Touched.{Touched}
-use Rattle.access_tags.specs.{HaveEnded.HaveEnded, Shelf.tag_in, Intervals.parts_of, Within.room}
+use Rattle.access_tags.specs.{HaveEnded.HaveEnded, Shelf.tag_in, Intervals.parts_of, Intervals.parts_to, Within.room}
 use Rattle.access_tags.proofs.{More.within_more, Spanned.within_part}
 use Rattle.access_tags.proofs.Parted.{ended_first, ended_one, ended_to}
 use Rattle.access_tags.proofs.tags.end_interval.Goals as goal
@@ -30,3 +30,10 @@ loop-index-preserved c =
       ended_to o.test (tag_in o.cells.now) (tag_in o.named.now) (tag_in l.cells) (tag_in l.named) (tag_in n.cells) (tag_in n.named) o.table.now l.table n.table o.interval l.index l.auto.index l.invariant.3
           (subst (λ (x : Touched). HaveEnded o.test (tag_in l.cells) (tag_in l.named) (tag_in n.cells) (tag_in n.named) l.table n.table (x ∷ [])) c.part.ensures one),
     )
+
+pub returns-clause-ended : goal.returns-clause-ended
+returns-clause-ended c =
+    let o = c.args in
+    let l = c.loop-index in
+    let e : l.index ≡ o.interval.end = omega (arith, c.loop-index-test.false, l.auto.index-end) in
+    subst (λ (i : ℕ). HaveEnded o.test (tag_in o.cells.now) (tag_in o.named.now) (tag_in l.cells) (tag_in l.named) o.table.now l.table (parts_to o.interval i)) e l.invariant.3
