@@ -1,12 +1,12 @@
 -- The arguments of a call: what is taken of the operands, and the locals with which a method is entered.
 use Rattle.std.proofs.Common.{◌≡◌, ℕ, zero, suc, ◌-◌, ◌≤◌, List, [], ◌∷◌, ◌++◌, length, drop, reverse, replicate, true, false, nat_eq, Option, Some, None, is_some, refl, sym, ◌∙◌, ap, subst, arith, inl, inr}
 use Rattle.std.specs.Prelude.{flat_map}
-use Rattle.std.proofs.lemmas.{Bool.cases_Bool, Bool.and_parts, Bool.eqb-true, List.reverse-append, List.append_assoc}
+use Rattle.std.proofs.{lemmas.Bool.cases_Bool, lemmas.Bool.and_parts, lemmas.Bool.eqb-true, lemmas.List.reverse-append, lemmas.Grind.flat_map-append, Math.Seq.drop-nil}
 use Rattle.jvm_model.specs.{declared.values.Value.Value, declared.program.Program.Program, declared.program.Body.Body, World.World, Classes.method_at}
 use Rattle.jvm_model.specs.declared.values.Value.TheVariants as value
 use Rattle.jvm_model.specs.{Descriptors.parameters, Linked.IsMethod, Entries.slots_of, Entries.filled, Entries.frame_of}
 use Rattle.type_frames.specs.declared.{vtype.VType.VType, stack_effect.OperandConstraint.OperandConstraint}
-use Rattle.type_frames.specs.declared.vtype.VType.TheVariants.{Top, Int, Long, Null, Object, UninitThis, Uninit}
+use Rattle.type_frames.specs.declared.vtype.VType.TheVariants.{Top, Int, Long, Null, Object}
 use Rattle.type_frames.specs.declared.stack_effect.OperandConstraint.TheVariants.{Fits, Half, Never}
 use Rattle.type_frames.specs.{Frames.spread, Frames.padded, Descriptors.types_of, Descriptors.class_name, Given.entry_types, Given.given_frames}
 use Rattle.type_frames.specs.{Environment.Environment, Environment.environment_of, StackEffect.needs_of, Rules.opening, Rules.meet_all, Typing.IsTyped}
@@ -74,8 +74,7 @@ Arguments p w _ _ = ⊥
 arguments_append : (p : Program) (w : World) (ts us : List (List ℕ)) (vs ws : List Value) → Arguments p w ts vs → Arguments p w us ws → Arguments p w (ts ++ us) (vs ++ ws)
 arguments_append p w [] us [] ws h g = g
 arguments_append p w (t ∷ ts) us (v ∷ vs) ws h g = (h.0, arguments_append p w ts us vs ws h.1 g)
-arguments_append p w [] us (v ∷ vs) ws h g = absurd h
-arguments_append p w (t ∷ ts) us [] ws h g = absurd h
+arguments_append p w _ us _ ws h g = absurd h
 
 pub arguments_reverse : (p : Program) (w : World) (ts : List (List ℕ)) (vs : List Value) → Arguments p w ts vs → Arguments p w (reverse ts) (reverse vs)
 arguments_reverse p w [] [] h = tt
@@ -83,8 +82,7 @@ arguments_reverse p w (t ∷ ts) (v ∷ vs) h =
     subst (λ (xs : List (List ℕ)). Arguments p w xs (reverse (v ∷ vs))) (sym (reverse-append (t ∷ []) ts))
     (subst (λ (xs : List Value). Arguments p w (reverse ts ++ t ∷ []) xs) (sym (reverse-append (v ∷ []) vs))
     (arguments_append p w (reverse ts) (t ∷ []) (reverse vs) (v ∷ []) (arguments_reverse p w ts vs h.1) (h.0, tt)))
-arguments_reverse p w [] (v ∷ vs) h = absurd h
-arguments_reverse p w (t ∷ ts) [] h = absurd h
+arguments_reverse p w _ _ h = absurd h
 
 -- ---- taking arguments off the operands
 
@@ -98,14 +96,9 @@ pub record Taken (p : Program) (w : World) (e : Environment) (ns : List OperandC
   pub operands : Operands p w e ns types rest below
   pub dropped : drop (length (flat_map needs_of texts)) start ≡ types
 
-drop_nil : (k : ℕ) (ts : List VType) → ts ≡ [] → drop k ts ≡ []
-drop_nil zero ts e = e
-drop_nil (suc k) [] e = refl
-drop_nil (suc k) (t ∷ ts) e = absurd (cc)
-
 drop_sum : (ns ms : List OperandConstraint) (ts : List VType) → drop (length (ns ++ ms)) ts ≡ drop (length ms) (drop (length ns) ts)
 drop_sum [] ms ts = refl
-drop_sum (n ∷ ns) ms [] = sym (drop_nil (length ms) [] refl)
+drop_sum (n ∷ ns) ms [] = sym (drop-nil (length ms))
 drop_sum (n ∷ ns) ms (t ∷ ts) = drop_sum ns ms ts
 
 module _ (p : Program) (ty : IsTyped p) (w : World) (e : Environment) where
@@ -155,22 +148,8 @@ text_slots p w e (t ∷ ts) (v ∷ vs) h = subst (λ (xs : List VType). HaveType
     by (Object a) value.Null q r = (q, r)
     by (Object a) (value.Lit n) q r = (q, r)
     by (Object a) (value.Obj n) q r = (q, r)
-    by (Object a) (value.Int n) q r = absurd q
-    by (Object a) (value.Long n) q r = absurd q
-    by Int (value.Long n) q r = absurd q
-    by Int value.Null q r = absurd q
-    by Int (value.Lit n) q r = absurd q
-    by Int (value.Obj n) q r = absurd q
-    by Long (value.Int n) q r = absurd q
-    by Long value.Null q r = absurd q
-    by Long (value.Lit n) q r = absurd q
-    by Long (value.Obj n) q r = absurd q
-    by Top v q r = absurd q
-    by Null v q r = absurd q
-    by UninitThis v q r = absurd q
-    by (Uninit k) v q r = absurd q
-text_slots p w e [] (v ∷ vs) h = absurd h
-text_slots p w e (t ∷ ts) [] h = absurd h
+    by _ _ q r = absurd q
+text_slots p w e _ _ h = absurd h
 
 slots_range : (p : Program) (w : World) (vs : List Value) → Ranged p w vs → Ranged p w (slots_of vs)
 slots_range p w [] h = tt
@@ -189,8 +168,7 @@ more_tops : (p : Program) (w : World) (e : Environment) (n : ℕ) (ts : List VTy
 more_tops p w e zero [] [] h = tt
 more_tops p w e (suc n) [] [] h = (tt, more_tops p w e n [] [] tt)
 more_tops p w e n (t ∷ ts) (v ∷ vs) h = (h.0, more_tops p w e n ts vs h.1)
-more_tops p w e n [] (v ∷ vs) h = absurd h
-more_tops p w e n (t ∷ ts) [] h = absurd h
+more_tops p w e n _ _ h = absurd h
 
 filled_types : (p : Program) (w : World) (e : Environment) (n : ℕ) (ts : List VType) (vs : List Value) → HaveTypes p w e ts vs → HaveTypes p w e (padded n ts) (filled n vs)
 filled_types p w e n ts vs h = subst (λ (k : ℕ). HaveTypes p w e (padded n ts) (vs ++ replicate (n - k) value.Null)) (as_many p w e ts vs h) (more_tops p w e (n - length ts) ts vs h)
@@ -221,8 +199,7 @@ entered_frame p ty w m b vs hb h g =
 pub takes_args : (p : Program) (w : World) (ts : List (List ℕ)) (vs ws : List Value) → Arguments p w ts vs → Takes p w (flat_map types_of ts) (vs ++ ws) ws
 takes_args p w [] [] ws h = refl
 takes_args p w (t ∷ ts) (v ∷ vs) ws h = subst (λ (xs : List VType). Takes p w (xs ++ flat_map types_of ts) (v ∷ vs ++ ws) ws) (sym h.0.is_type) (h.0.plain, h.0.range, takes_args p w ts vs ws h.1)
-takes_args p w [] (v ∷ vs) ws h = absurd h
-takes_args p w (t ∷ ts) [] ws h = absurd h
+takes_args p w _ _ ws h = absurd h
 
 pub takes_append : (p : Program) (w : World) (ts us : List VType) (vs xs ws : List Value) → Takes p w ts vs xs → Takes p w us xs ws → Takes p w (ts ++ us) vs ws
 takes_append p w [] us vs xs ws h g = subst (λ (ys : List Value). Takes p w us ys ws) (sym h) g
@@ -233,11 +210,6 @@ takes_append p w (t ∷ ts) us (v ∷ vs) xs ws h g = (h.0, h.1, takes_append p 
 pub one_each_reverse : (p : Program) (w : World) (ts : List (List ℕ)) (vs : List Value) → Arguments p w ts vs → flat_map types_of (reverse ts) ≡ reverse (flat_map types_of ts)
 one_each_reverse p w [] [] h = refl
 one_each_reverse p w (t ∷ ts) (v ∷ vs) h =
-    ap (flat_map types_of) (reverse-append (t ∷ []) ts) ∙ (flat_append (reverse ts) (t ∷ []) ∙ (ap (λ (xs : List VType). xs ++ (types_of t ++ [])) (one_each_reverse p w ts vs h.1)
+    ap (flat_map types_of) (reverse-append (t ∷ []) ts) ∙ (flat_map-append types_of (reverse ts) (t ∷ []) ∙ (ap (λ (xs : List VType). xs ++ (types_of t ++ [])) (one_each_reverse p w ts vs h.1)
     ∙ (ap (λ (xs : List VType). reverse (flat_map types_of ts) ++ (xs ++ [])) h.0.is_type ∙ (sym (reverse-append (h.0.type ∷ []) (flat_map types_of ts)) ∙ ap (λ (xs : List VType). reverse (xs ++ flat_map types_of ts)) (sym h.0.is_type)))))
-  where
-    flat_append : (xs ys : List (List ℕ)) → flat_map types_of (xs ++ ys) ≡ flat_map types_of xs ++ flat_map types_of ys
-    flat_append [] ys = refl
-    flat_append (x ∷ xs) ys = ap (λ (zs : List VType). types_of x ++ zs) (flat_append xs ys) ∙ sym (append_assoc (types_of x) (flat_map types_of xs) (flat_map types_of ys))
-one_each_reverse p w [] (v ∷ vs) h = absurd h
-one_each_reverse p w (t ∷ ts) [] h = absurd h
+one_each_reverse p w _ _ h = absurd h

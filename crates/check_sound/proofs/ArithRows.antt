@@ -15,9 +15,9 @@ use Rattle.type_frames.specs.{Environment.Environment, Rules.meets, TypedState.H
 use Rattle.check_sound.proofs.{MoveRows.read_local, MoveRows.kept_local, MoveRows.set_range, Held.is_fits, Held.Locals, Held.int_on, Held.long_on}
 use Rattle.jvm_model.specs.RowsArith.{increased, divides, shifts, two_ints, two_longs, long_by_int, row_arith}
 use Rattle.type_frames.specs.declared.stack_effect.OperandConstraint.TheVariants.{Fits, Half}
-use Rattle.type_frames.specs.declared.vtype.VType.TheVariants.{Top, Int, Long, Null, Object, UninitThis, Uninit}
+use Rattle.type_frames.specs.declared.vtype.VType.TheVariants.{Top, Int, Long}
 use Rattle.type_frames.specs.StackEffect.{sides, second_need, int_need, long_need}
-use Rattle.check_sound.proofs.{Tree.typed_done, Ends.fault_typed, Thrown.arithmetic_thrown}
+use Rattle.check_sound.proofs.{Tree.typed_done, Ends.fault_typed, Thrown.thrown}
 use Rattle.check_sound.proofs.Operands.{Operands, rest_of, popping-fits, popping-long, on_int-typed, on_long-typed, choose-typed}
 use Rattle.check_sound.proofs.Ready.{Ends, Row, Ready, here, rest, operands, on}
 
@@ -29,19 +29,13 @@ module _ (p : Program) {w : World} where
 -- an int in the place of another
 int_there : (p : Program) (t : VType) → meets p (Fits Int) t ≡ true → t ≡ Int
 int_there p Int m = refl
-int_there p Top m = absurd (cc)
-int_there p Long m = absurd (cc)
-int_there p Null m = absurd (cc)
-int_there p (Object a) m = absurd (cc)
-int_there p UninitThis m = absurd (cc)
-int_there p (Uninit a) m = absurd (cc)
+int_there p _ m = absurd (cc)
 
 same_type : (p : Program) (w : World) (e : Environment) (ts : List VType) (vs : List Value) (n : ℕ) (a : ℤ) → slice_index_or ts n Top ≡ Int → HaveTypes p w e ts vs → HaveTypes p w e ts (set vs n (value.Int a))
 same_type p w e [] [] n a q h = h
-same_type p w e [] (v ∷ vs) n a q h = absurd h
-same_type p w e (t ∷ ts) [] n a q h = absurd h
 same_type p w e (t ∷ ts) (v ∷ vs) zero a q h = (subst (λ (x : VType). HasType p w e x (value.Int a)) (sym q) tt, h.1)
 same_type p w e (t ∷ ts) (v ∷ vs) (suc n) a q h = (h.0, same_type p w e ts vs n a q h.1)
+same_type p w e _ _ n a q h = absurd h
 
 same_local : (p : Program) (w : World) (e : Environment) (ts : List VType) (vs : List Value) (n : ℕ) (a : ℤ) → slice_index_or ts n Top ≡ Int → Locals p w e ts vs → Locals p w e ts (set vs n (value.Int a))
 same_local p w e ts vs n a q h = record { types = same_type p w e ts vs n a q h.types; range = set_range p w e vs n (value.Int a) tt h.range }
@@ -49,43 +43,25 @@ same_local p w e ts vs n a q h = record { types = same_type p w e ts vs n a q h.
 -- the upper operand's needs
 ints_needed : (x : Op) → second_need x false ≡ int_need
 ints_needed op.Shl = refl
-ints_needed op.Shr = refl
-ints_needed op.Ushr = refl
-ints_needed op.Add = refl
-ints_needed op.Sub = refl
-ints_needed op.Mul = refl
-ints_needed op.Div = refl
-ints_needed op.Rem = refl
-ints_needed op.And = refl
-ints_needed op.Or = refl
-ints_needed op.Xor = refl
+ints_needed _ = refl
 
 long_needed : (x : Op) → second_need x true ≡ cond (shifts x) int_need long_need
 long_needed op.Shl = refl
-long_needed op.Shr = refl
-long_needed op.Ushr = refl
-long_needed op.Add = refl
-long_needed op.Sub = refl
-long_needed op.Mul = refl
-long_needed op.Div = refl
-long_needed op.Rem = refl
-long_needed op.And = refl
-long_needed op.Or = refl
-long_needed op.Xor = refl
+long_needed _ = refl
 
 module _ (p : Program) (ty : IsTyped p) {w : World} {s : Entries} where
   two_ints-typed : (x : Op) (r : Ready p w s (form.Binary x false)) → Operands p w (here r) (Fits Int ∷ Fits Int ∷ []) r.types.stack (rest r) s.top.stack → Row p w (two_ints p x s)
   unfolding sides
   two_ints-typed x r q = popping-fits p (Ends p) w ty.linked Int tt q (λ v vs us h sv o. popping-fits p (Ends p) w ty.linked Int tt o (λ u ws ts g su n.
       on_int-typed p (Ends p) w v h (λ b. on_int-typed p (Ends p) w u g (λ a.
-      by_zero p x b (typed_done (fault_typed p ty r arithmetic_exception ws (arithmetic_thrown p ty.linked) (rest_of n).range))
+      by_zero p x b (typed_done (fault_typed p ty r arithmetic_exception ws (thrown p ty.linked arithmetic_exception refl) (rest_of n).range))
       (on p ty r refl r.locals (int_on (rest_of n)))))))
 
   two_longs-typed : (x : Op) (r : Ready p w s (form.Binary x true)) → Operands p w (here r) (Half ∷ Fits Long ∷ Half ∷ Fits Long ∷ []) r.types.stack (rest r) s.top.stack → Row p w (two_longs p x s)
   unfolding sides
   two_longs-typed x r q = popping-long p (Ends p) w q (λ v vs us h o. popping-long p (Ends p) w o (λ u ws ts g n.
       on_long-typed p (Ends p) w v h (λ b. on_long-typed p (Ends p) w u g (λ a.
-      by_zero p x b (typed_done (fault_typed p ty r arithmetic_exception ws (arithmetic_thrown p ty.linked) (rest_of n).range))
+      by_zero p x b (typed_done (fault_typed p ty r arithmetic_exception ws (thrown p ty.linked arithmetic_exception refl) (rest_of n).range))
       (on p ty r refl r.locals (long_on (rest_of n)))))))
 
   long_by_int-typed : (x : Op) (r : Ready p w s (form.Binary x true)) → Operands p w (here r) (Fits Int ∷ Half ∷ Fits Long ∷ []) r.types.stack (rest r) s.top.stack → Row p w (long_by_int p x s)
@@ -116,9 +92,7 @@ module _ (p : Program) (ty : IsTyped p) {w : World} {s : Entries} where
   unfolding row_arith sides
   convert conv.I2l r = popping-fits p (Ends p) w ty.linked Int tt (operands r) (λ v vs us h sv o. on_int-typed p (Ends p) w v h (λ a. on p ty r refl r.locals (long_on (rest_of o))))
   convert conv.L2i r = popping-long p (Ends p) w (operands r) (λ v vs us h o. on_long-typed p (Ends p) w v h (λ a. on p ty r refl r.locals (int_on (rest_of o))))
-  convert conv.I2b r = popping-fits p (Ends p) w ty.linked Int tt (operands r) (λ v vs us h sv o. on_int-typed p (Ends p) w v h (λ a. on p ty r refl r.locals (int_on (rest_of o))))
-  convert conv.I2c r = popping-fits p (Ends p) w ty.linked Int tt (operands r) (λ v vs us h sv o. on_int-typed p (Ends p) w v h (λ a. on p ty r refl r.locals (int_on (rest_of o))))
-  convert conv.I2s r = popping-fits p (Ends p) w ty.linked Int tt (operands r) (λ v vs us h sv o. on_int-typed p (Ends p) w v h (λ a. on p ty r refl r.locals (int_on (rest_of o))))
+  convert _ r = popping-fits p (Ends p) w ty.linked Int tt (operands r) (λ v vs us h sv o. on_int-typed p (Ends p) w v h (λ a. on p ty r refl r.locals (int_on (rest_of o))))
 
   pub inc : (n : ℕ) (by : ℤ) → Ready p w s (form.Inc n by) → Row p w (row_arith p (form.Inc n by) s)
   unfolding row_arith sides

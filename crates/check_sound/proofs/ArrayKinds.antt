@@ -26,12 +26,7 @@ element_array d (base.Class c) =
     let q : suc (suc d) - 1 ≡ suc d = omega arith in
     let e : nat_eq (suc (suc d)) 1 ≡ false = elim (cases_Bool (nat_eq (suc (suc d)) 1)) [ inl z ↦ absurd (let y = eqb-true (suc (suc d)) 1 z in omega arith) | inr z ↦ z ] in
     rw e (ap (λ (n : ℕ). kind.Array n (base.Class c)) q)
-element_array d base.Boolean = ap (λ (n : ℕ). kind.Array n base.Boolean) (omega arith)
-element_array d base.Byte = ap (λ (n : ℕ). kind.Array n base.Byte) (omega arith)
-element_array d base.Char = ap (λ (n : ℕ). kind.Array n base.Char) (omega arith)
-element_array d base.Short = ap (λ (n : ℕ). kind.Array n base.Short) (omega arith)
-element_array d base.Int = ap (λ (n : ℕ). kind.Array n base.Int) (omega arith)
-element_array d base.Long = ap (λ (n : ℕ). kind.Array n base.Long) (omega arith)
+element_array d b = ap (λ (n : ℕ). kind.Array n b) (omega arith)
 
 pub of_arrays : (p : Program) (d : ℕ) (b : Base) → IsKind p (kind.Array (suc (suc d)) b) → References p (kind.Array (suc (suc d)) b) (kind.Array (suc d) b)
 of_arrays p d b h = record { element = element_array d b; is_kind = (omega arith, (let z = h.1 in omega arith), h.2); types = refl }
@@ -99,8 +94,7 @@ module _ (p : Program) (lk : Linked p) where
     where
       by : (r t : Bool) → r ≡ false → t ≡ false → elim r as (λ z. Bool) [ true ↦ elim (nat_eq u 76) as (λ z. Bool) [ true ↦ class_fits p (class_name us) (class_name []) | false ↦ nat_eq u 91 && takes_any p (class_name []) ] | false ↦ elim t as (λ z. Bool) [ true ↦ nat_eq u 91 && element_fits p us [] | false ↦ nat_eq u l ] ] ≡ true → nat_eq u l ≡ true
       by false false e f i = i
-      by true t e f i = absurd (cc)
-      by false true e f i = absurd (cc)
+      by _ _ e f i = absurd (cc)
 
   plain_base : (b : Base) (l : ℕ) → nat_eq l 76 ≡ false → nat_eq l 91 ≡ false → element_fits p (base_text p b) (l ∷ []) ≡ true → (base_text p b ≡ l ∷ []) × (base_letter b ≡ l)
   plain_base base.Boolean l e f i = let q = letter_fits 90 [] l e f i in (ap {B = List ℕ} (λ k. k ∷ []) q, q)
@@ -179,12 +173,7 @@ module _ (p : Program) (lk : Linked p) where
         type = refl;
         fits = array_fits p lk (kind_name p (kind.Array (suc d) b)) (class_name ws) refl (taken_plain (class_name ws) t) ∙ t;
       }
-  class_elements x zero base.Boolean ws h q i = absurd (cc)
-  class_elements x zero base.Byte ws h q i = absurd (cc)
-  class_elements x zero base.Char ws h q i = absurd (cc)
-  class_elements x zero base.Short ws h q i = absurd (cc)
-  class_elements x zero base.Int ws h q i = absurd (cc)
-  class_elements x zero base.Long ws h q i = absurd (cc)
+  class_elements x zero _ ws h q i = absurd (cc)
 
   -- arrays of arrays
   array_elements : (x : Kind) (d : ℕ) (b : Base) (ws : List ℕ) → IsKind p (kind.Array (suc d) b) → x ≡ kind.Array (suc d) b → element_fits p (replicate d 91 ++ base_text p b) (91 ∷ ws) ≡ true → Refs p (91 ∷ 91 ∷ ws) x
@@ -199,12 +188,7 @@ module _ (p : Program) (lk : Linked p) where
     fits = both_arrays (kind_name p (kind.Array (suc d) b)) (91 ∷ ws) refl refl ∙ i;
   }
   array_elements x zero (base.Class c) ws h q i = absurd (cc)
-  array_elements x zero base.Boolean ws h q i = absurd (cc)
-  array_elements x zero base.Byte ws h q i = absurd (cc)
-  array_elements x zero base.Char ws h q i = absurd (cc)
-  array_elements x zero base.Short ws h q i = absurd (cc)
-  array_elements x zero base.Int ws h q i = absurd (cc)
-  array_elements x zero base.Long ws h q i = absurd (cc)
+  array_elements x zero _ ws h q i = absurd (cc)
 
   -- an array type whose arrays hold references
   letters : (w : ℕ) (ws t : List ℕ) → element_fits p (w ∷ ws) (76 ∷ t) ≡ true → (nat_eq w 76 ≡ true) ⊎ (nat_eq w 91 ≡ true)

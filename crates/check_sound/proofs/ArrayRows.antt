@@ -27,7 +27,7 @@ use Rattle.check_sound.proofs.Held.{Is, Held, int_on, is_fits, refers_fits}
 use Rattle.check_sound.proofs.Operands.{Operands, IsPop, rest_of, popping-seen, popping-typed, popping-fits, popping-long, on_int-typed, on_object-typed, head-typed, choose-typed}
 use Rattle.check_sound.proofs.Ready.{Ends, Row, Ready, here, rest, operands, on}
 use Rattle.check_sound.proofs.{Ends.fault_typed, CallEffects.Result, CallEffects.push, DeclaredValues.declared_result, LibraryTypes.constant_is_kind}
-use Rattle.check_sound.proofs.{Thrown.null_pointer_thrown, Thrown.array_index_thrown, Thrown.array_store_thrown, KindNames.kind_instance}
+use Rattle.check_sound.proofs.{Thrown.thrown, KindNames.kind_instance}
 use Rattle.jvm_model.proofs.NarrowedFits.{narrowed_fits, smalls}
 use Rattle.check_sound.proofs.ArrayKinds.{Plain, Refs, array_below, array_kind, plain_cells, ref_cells}
 
@@ -40,10 +40,7 @@ data Pointed (p : Program) (w : World) (t : VType) (v : Value) : Type 0 where
 
 pointed : (p : Program) (w : World) (e : Environment) (t : VType) (v : Value) → is_any_array t ≡ true → HasType p w e t v → Pointed p w t v
 pointed p w e Null value.Null m h = at_null refl
-pointed p w e Null (value.Int n) m h = absurd h
-pointed p w e Null (value.Long n) m h = absurd h
-pointed p w e Null (value.Lit n) m h = absurd h
-pointed p w e Null (value.Obj n) m h = absurd h
+pointed p w e Null _ m h = absurd h
 pointed p w e (Object a) v m h = at_array a refl m h
 pointed p w e t v m h = absurd (cc)
 
@@ -68,11 +65,7 @@ needed p lk cell.Short t m = array_met p lk (91 ∷ 83 ∷ []) t refl m
 
 array_pops : (p : Program) (c : Cell) → IsPop (array_need p c)
 array_pops p cell.Int = tt
-array_pops p cell.Long = tt
-array_pops p cell.Ref = tt
-array_pops p cell.Byte = tt
-array_pops p cell.Char = tt
-array_pops p cell.Short = tt
+array_pops p _ = tt
 
 -- ---- what the elements are
 
@@ -136,12 +129,9 @@ module _ (p : Program) (lk : Linked p) (w : World) (e : Environment) where
       (push p w e (Object q.named ∷ []) us (v ∷ []) vs (refers_fits p lk w e (kind_name p q.element) q.named v q.fits r.0, r.1) h)
 
   cell_loaded : (c : Cell) (a : List ℕ) (x : Kind) → Cells p c a x → (f : Slots) → place_of f 1 ≡ Object a → (us : List VType) (v : Value) (vs : List Value) → IsDeclared p w (element_text p x) v → Held p w e us vs → Held p w e (loaded f c ++ us) (v ∷ vs)
-  cell_loaded cell.Int a x q f g us v vs d h = int_loaded x q us v vs d h
-  cell_loaded cell.Byte a x q f g us v vs d h = int_loaded x q us v vs d h
-  cell_loaded cell.Char a x q f g us v vs d h = int_loaded x q us v vs d h
-  cell_loaded cell.Short a x q f g us v vs d h = int_loaded x q us v vs d h
   cell_loaded cell.Long a x q f g us v vs d h = long_loaded x q us v vs d h
   cell_loaded cell.Ref a x q f g us v vs d h = subst (λ (t : VType). Held p w e (element_type t ∷ us) (v ∷ vs)) (sym g) (ref_loaded a x q us v vs d h)
+  cell_loaded _ a x q f g us v vs d h = int_loaded x q us v vs d h
 
   -- ---- operands as elements
 
@@ -152,10 +142,7 @@ module _ (p : Program) (lk : Linked p) (w : World) (e : Environment) where
     where
       by : (v : Value) → Is p w e Int v → IsDeclared p w (q.unit ∷ []) (narrow q.unit v)
       by (value.Int n) i = narrowed_fits q.unit n q.small
-      by (value.Long n) i = absurd i.type
-      by value.Null i = absurd i.type
-      by (value.Lit n) i = absurd i.type
-      by (value.Obj n) i = absurd i.type
+      by _ i = absurd i.type
 
   long_stored : (x : Kind) (v : Value) → Plain p x 74 → Is p w e Long v → IsDeclared p w (element_text p x) (narrow (element_letter x) v)
   unfolding narrow
@@ -163,17 +150,12 @@ module _ (p : Program) (lk : Linked p) (w : World) (e : Environment) where
     where
       by : (v : Value) → Is p w e Long v → IsDeclared p w (74 ∷ []) (narrow (element_letter x) v)
       by (value.Long n) i = refl
-      by (value.Int n) i = absurd i.type
-      by value.Null i = absurd i.type
-      by (value.Lit n) i = absurd i.type
-      by (value.Obj n) i = absurd i.type
+      by _ i = absurd i.type
 
   ref_stored : (a : List ℕ) (x : Kind) (q : Refs p a x) → (v : Value) → RefersTo p w (kind_name p q.element) v → IsDeclared p w (element_text p x) v
-  ref_stored a x q value.Null h = subst (λ (ts : List VType). IsReferenceOf p w ts value.Null) (sym q.references.types) h
-  ref_stored a x q (value.Lit n) h = subst (λ (ts : List VType). IsReferenceOf p w ts (value.Lit n)) (sym q.references.types) h
-  ref_stored a x q (value.Obj o) h = subst (λ (ts : List VType). IsReferenceOf p w ts (value.Obj o)) (sym q.references.types) h
   ref_stored a x q (value.Int n) h = absurd h
   ref_stored a x q (value.Long n) h = absurd h
+  ref_stored a x q v h = subst (λ (ts : List VType). IsReferenceOf p w ts v) (sym q.references.types) h
 
 -- ---- the rows
 
@@ -207,14 +189,14 @@ module _ (p : Program) (ty : IsTyped p) {w : World} {s : Entries} where
   element_read : (c : Cell) (r : Ready p w s (form.ArrayLoad c)) (j : ℤ) (vs : List Value) (a : List ℕ) (o d : ℕ) (b : Base) → place_of r.types 1 ≡ Object a → Cells p c a (kind_at w o) → kind_at w o ≡ kind.Array d b → o < size w → Held p w (here r) (rest r) vs → Row p w (loaded_from p s o j vs (head_at w o))
   unfolding sides
   element_read c r j vs a o d b q cs e lt h = on_array-typed p ty w (kind_at w o) d b e
-      (in_range-typed p ty w (with_stack s vs) j (head_at w o).length (fault_typed p ty r array_index_exception vs (array_index_thrown p ty.linked) h.range)
+      (in_range-typed p ty w (with_stack s vs) j (head_at w o).length (fault_typed p ty r array_index_exception vs (thrown p ty.linked array_index_exception refl) h.range)
       (λ n l. typed_read (d, b, lt, e, l) (λ v f. on p ty r refl r.locals (cell_loaded p ty.linked w (here r) c a (kind_at w o) cs r.types q (rest r) v vs f h))))
 
   pub load : (c : Cell) → Ready p w s (form.ArrayLoad c) → Row p w (row_arrays p (form.ArrayLoad c) s)
   unfolding row_arrays sides
   load c r = popping-seen p (Ends p) w (Fits Int) tt (operands r) (λ v vs t us q i sv m o. popping-seen p (Ends p) w (array_need p c) (array_pops p c) o (λ b ws u ts z g sb n l.
       on_int-typed p (Ends p) w v (is_fits p ty.linked w (here r) t Int v m i) (λ j.
-      on_pointed p ty w (with_stack s ws) u b (λ k h. loaded_from p s k j ws h) (pointed p w (here r) u b (needed p ty.linked c u n) g.type) (fault_typed p ty r null_pointer_exception ws (null_pointer_thrown p ty.linked) (rest_of l).range)
+      on_pointed p ty w (with_stack s ws) u b (λ k h. loaded_from p s k j ws h) (pointed p w (here r) u b (needed p ty.linked c u n) g.type) (fault_typed p ty r null_pointer_exception ws (thrown p ty.linked null_pointer_exception refl) (rest_of l).range)
       (λ a k e x lt h y.
       let f = array_kind p ty.linked (kind_at w k) a h x y in
       element_read c r j ws a k f.0 f.1 (ap (λ (xs : List VType). slice_index_or xs 1 Top) (q ∙ ap {B = List VType} (λ xs. t ∷ xs) z) ∙ e)
@@ -234,14 +216,13 @@ module _ (p : Program) (ty : IsTyped p) {w : World} {s : Entries} where
       fits y k f = kind_instance p ty.linked y q.element k q.references.is_kind (subst (λ (x : Kind). kind_fits p y x ≡ true) q.references.element f)
 
       bad : Ends p w (answer (Fault array_store_exception) (with_stack s vs))
-      bad = fault_typed p ty r array_store_exception vs (array_store_thrown p ty.linked) h.range
+      bad = fault_typed p ty r array_store_exception vs (thrown p ty.linked array_store_exception refl) h.range
 
       by : (v : Value) → Is p w (here r) (Object (name_of p object_class)) v → Row p w (checked p (head_at w o).kind (with_stack s vs) v (write (place.Elem o n) v (goes_on p s vs)))
-      by (value.Int k) i = absurd i.type
-      by (value.Long k) i = absurd i.type
       by value.Null i = puts value.Null tt
       by (value.Lit k) i = choose-typed p (Ends p) w (kind_fits p (constant_kind k) (element_kind (kind_at w o))) (λ f. puts (value.Lit k) (i.range, fits (constant_kind k) (constant_is_kind p ty.linked k) f)) (λ f. typed_done bad)
       by (value.Obj k) i = head-typed p (Ends p) w k i.range (λ y. choose-typed p (Ends p) w (kind_fits p (kind_at w k) (element_kind (kind_at w o))) (λ f. puts (value.Obj k) (i.range, fits (kind_at w k) y f)) (λ f. typed_done bad))
+      by _ i = absurd i.type
 
   -- the element is written, of any sort of cells
   cell_written : (c : Cell) (r : Ready p w s (form.ArrayStore c)) (v : Value) (vs : List Value) (a : List ℕ) (o d n : ℕ) (b : Base) → Storable p w (here r) c v → Cells p c a (kind_at w o) → kind_at w o ≡ kind.Array d b → o < size w → n < (head_at w o).length → Held p w (here r) (rest r) vs
@@ -249,20 +230,17 @@ module _ (p : Program) (ty : IsTyped p) {w : World} {s : Entries} where
   unfolding sides
   cell_written cell.Ref r v vs a o d n b i q e lt l h = ref_checked r v vs a o d n b i q e lt l h
   cell_written cell.Long r v vs a o d n b i q e lt l h = typed_write tt (d, b, lt, e, l) (long_stored p ty.linked w (here r) (kind_at w o) v q i) (on p ty r refl r.locals h)
-  cell_written cell.Int r v vs a o d n b i q e lt l h = typed_write tt (d, b, lt, e, l) (int_stored p ty.linked w (here r) (kind_at w o) v q i) (on p ty r refl r.locals h)
-  cell_written cell.Byte r v vs a o d n b i q e lt l h = typed_write tt (d, b, lt, e, l) (int_stored p ty.linked w (here r) (kind_at w o) v q i) (on p ty r refl r.locals h)
-  cell_written cell.Char r v vs a o d n b i q e lt l h = typed_write tt (d, b, lt, e, l) (int_stored p ty.linked w (here r) (kind_at w o) v q i) (on p ty r refl r.locals h)
-  cell_written cell.Short r v vs a o d n b i q e lt l h = typed_write tt (d, b, lt, e, l) (int_stored p ty.linked w (here r) (kind_at w o) v q i) (on p ty r refl r.locals h)
+  cell_written _ r v vs a o d n b i q e lt l h = typed_write tt (d, b, lt, e, l) (int_stored p ty.linked w (here r) (kind_at w o) v q i) (on p ty r refl r.locals h)
 
   element_write : (c : Cell) (r : Ready p w s (form.ArrayStore c)) (j : ℤ) (v : Value) (vs : List Value) (a : List ℕ) (o d : ℕ) (b : Base) → Storable p w (here r) c v → Cells p c a (kind_at w o) → kind_at w o ≡ kind.Array d b → o < size w → Held p w (here r) (rest r) vs → Row p w (stored_in p c s o j v vs (head_at w o))
   element_write c r j v vs a o d b i q e lt h = on_array-typed p ty w (kind_at w o) d b e
-      (in_range-typed p ty w (with_stack s vs) j (head_at w o).length (fault_typed p ty r array_index_exception vs (array_index_thrown p ty.linked) h.range) (λ n l. cell_written c r v vs a o d n b i q e lt l h))
+      (in_range-typed p ty w (with_stack s vs) j (head_at w o).length (fault_typed p ty r array_index_exception vs (thrown p ty.linked array_index_exception refl) h.range) (λ n l. cell_written c r v vs a o d n b i q e lt l h))
 
   stores : (c : Cell) (r : Ready p w s (form.ArrayStore c)) (v : Value) (vs : List Value) (us : List VType) → Storable p w (here r) c v → Operands p w (here r) (Fits Int ∷ array_need p c ∷ []) us (rest r) vs
       → Row p w (popping vs (λ j ws. popping ws (λ b xs. on_int j (λ i. on_object (with_stack s xs) b (λ o. read (place.Head o) (λ h. stored_in p c s o i v xs h))))))
   stores c r v vs us i o = popping-fits p (Ends p) w ty.linked Int tt o (λ x ws ts g sx n. popping-typed p (Ends p) w (array_need p c) (array_pops p c) n (λ b xs u zs f sb m l.
       on_int-typed p (Ends p) w x g (λ j.
-      on_pointed p ty w (with_stack s xs) u b (λ k h. stored_in p c s k j v xs h) (pointed p w (here r) u b (needed p ty.linked c u m) f.type) (fault_typed p ty r null_pointer_exception xs (null_pointer_thrown p ty.linked) (rest_of l).range)
+      on_pointed p ty w (with_stack s xs) u b (λ k h. stored_in p c s k j v xs h) (pointed p w (here r) u b (needed p ty.linked c u m) f.type) (fault_typed p ty r null_pointer_exception xs (thrown p ty.linked null_pointer_exception refl) (rest_of l).range)
       (λ a k e y lt h z.
       let q = array_kind p ty.linked (kind_at w k) a h y z in
       element_write c r j v xs a k q.0 q.1 i (cells p ty.linked c a (kind_at w k) y (subst (λ (t : VType). meets p (array_need p c) t ≡ true) e m) h z) q.2 lt (rest_of l)))))
@@ -271,17 +249,14 @@ module _ (p : Program) (ty : IsTyped p) {w : World} {s : Entries} where
   unfolding row_arrays sides
   store cell.Long r = popping-long p (Ends p) w (operands r) (λ v vs us i o. stores cell.Long r v vs us i o)
   store cell.Ref r = popping-fits p (Ends p) w ty.linked (Object (name_of p object_class)) tt (operands r) (λ v vs us i sv o. stores cell.Ref r v vs us i o)
-  store cell.Int r = popping-fits p (Ends p) w ty.linked Int tt (operands r) (λ v vs us i sv o. stores cell.Int r v vs us i o)
-  store cell.Byte r = popping-fits p (Ends p) w ty.linked Int tt (operands r) (λ v vs us i sv o. stores cell.Byte r v vs us i o)
-  store cell.Char r = popping-fits p (Ends p) w ty.linked Int tt (operands r) (λ v vs us i sv o. stores cell.Char r v vs us i o)
-  store cell.Short r = popping-fits p (Ends p) w ty.linked Int tt (operands r) (λ v vs us i sv o. stores cell.Short r v vs us i o)
+  store c r = popping-fits p (Ends p) w ty.linked Int tt (operands r) (λ v vs us i sv o. stores c r v vs us i o)
 
   -- the length
 
   pub array_length : Ready p w s form.ArrayLength → Row p w (row_arrays p form.ArrayLength s)
   unfolding row_arrays sides
   array_length r = popping-typed p (Ends p) w Array tt (operands r) (λ v vs t us i sv m o.
-      on_pointed p ty w (with_stack s vs) t v (λ k h. on_array h.kind (goes_on p s (value.Int (l2i (pos h.length)) ∷ vs))) (pointed p w (here r) t v m i.type) (fault_typed p ty r null_pointer_exception vs (null_pointer_thrown p ty.linked) (rest_of o).range)
+      on_pointed p ty w (with_stack s vs) t v (λ k h. on_array h.kind (goes_on p s (value.Int (l2i (pos h.length)) ∷ vs))) (pointed p w (here r) t v m i.type) (fault_typed p ty r null_pointer_exception vs (thrown p ty.linked null_pointer_exception refl) (rest_of o).range)
       (λ a k e x lt h y.
       let q = array_kind p ty.linked (kind_at w k) a h x y in
       on_array-typed p ty w (kind_at w k) q.0 q.1 q.2 (on p ty r refl r.locals (int_on (rest_of o)))))

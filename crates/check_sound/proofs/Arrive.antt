@@ -2,8 +2,8 @@
 use Rattle.std.proofs.Common.{◌≡◌, ℕ, zero, suc, ◌+◌, ◌-◌, ◌<◌, ◌≤◌, List, [], ◌∷◌, ◌++◌, length, drop, map, Bool, true, false, ◌&&◌, ◌||◌, not, cond, nat_eq, nat_lt, nat_le, Option, Some, None, IfSome, slice_get, get_or, refl, sym, ◌∙◌, ap, subst, arith, inl, inr, is_some, is_none, add-one}
 use Rattle.std.specs.List.{list_any, list_all, position_from}
 use Rattle.std.specs.Prelude.{flat_map}
-use Rattle.std.proofs.lemmas.Bool.{and_parts, cases_Bool, cases_lt, ltb-false, eqb-true, ltb-true, leb-true, or_left, or_right, or_cases}
-use Rattle.std.proofs.lemmas.List.{length-append, length-drop, length-reverse}
+use Rattle.std.proofs.lemmas.Bool.{and_parts, cases_Bool, cases_lt, ltb-false, eqb-true, ltb-true, leb-true, or_left, or_right}
+use Rattle.std.proofs.lemmas.List.{length-append, length-drop, length-reverse, get_or_past, Folds.list_any-append}
 use Rattle.std.specs.Prelude.{reverse}
 use Rattle.check_sound.proofs.{Wide.turned_length, Held.Locals, Held.Held, Held.locals_fit, Held.held_fits}
 use Rattle.std.proofs.lemmas.Option.{slice_get-get_or, slice_get_within, get_or_from_slice_get}
@@ -88,12 +88,7 @@ all_at_index f (x ∷ xs) zero n e q = let z : x ≡ n = cc in subst (λ (y : �
 all_at_index f (x ∷ xs) (suc k) n e q = all_at_index f xs k n (and_parts _ _ e).1 q
 
 pub has_number : (p : Program) (n : ℕ) (b : Body) → (method_at p n).body ≡ Some b → n < length p.methods
-has_number p n b e = elim (cases_lt n (length p.methods)) [ inl l ↦ l | inr g ↦ absurd (past p.methods n g e) ]
-  where
-    past : (ms : List MethodRec) (n : ℕ) → length ms ≤ n → (get_or ms n no_method).body ≡ Some b → ⊥
-    past [] n g e = let z : no_method.body ≡ Some b = e in absurd (cc)
-    past (m ∷ ms) zero g e = absurd (omega arith)
-    past (m ∷ ms) (suc n) g e = past ms n (omega arith) e
+has_number p n b e = elim (cases_lt n (length p.methods)) [ inl l ↦ l | inr g ↦ absurd (let z : None ≡ Some b = sym (ap (λ (m : MethodRec). m.body) (get_or_past p.methods n no_method g)) ∙ e in cc) ]
 
 module _ (p : Program) (ty : IsTyped p) where
   pub typed_method : (n : ℕ) (b : Body) → (method_at p n).body ≡ Some b → IsTypedMethod p (method_at p n)
@@ -126,15 +121,10 @@ any_place n k (x ∷ ns) e = by (nat_eq x n) e (any_place n (k + 1) ns)
     by false e f = f e
 
 pub any_append_left : (n : ℕ) (xs ys : List ℕ) → list_any (λ m. nat_eq m n) xs ≡ true → list_any (λ m. nat_eq m n) (xs ++ ys) ≡ true
-any_append_left n [] ys e = absurd (cc)
-any_append_left n (x ∷ xs) ys e = elim (or_cases (nat_eq x n) (list_any (λ m. nat_eq m n) xs) e) [
-  | inl q ↦ or_left (nat_eq x n) (list_any (λ m. nat_eq m n) (xs ++ ys)) q
-  | inr q ↦ or_right (nat_eq x n) (list_any (λ m. nat_eq m n) (xs ++ ys)) (any_append_left n xs ys q)
-]
+any_append_left n xs ys e = list_any-append (λ m. nat_eq m n) xs ys ∙ or_left (list_any (λ m. nat_eq m n) xs) (list_any (λ m. nat_eq m n) ys) e
 
 pub any_append_right : (n : ℕ) (xs ys : List ℕ) → list_any (λ m. nat_eq m n) ys ≡ true → list_any (λ m. nat_eq m n) (xs ++ ys) ≡ true
-any_append_right n [] ys e = e
-any_append_right n (x ∷ xs) ys e = or_right (nat_eq x n) (list_any (λ m. nat_eq m n) (xs ++ ys)) (any_append_right n xs ys e)
+any_append_right n xs ys e = list_any-append (λ m. nat_eq m n) xs ys ∙ or_right (list_any (λ m. nat_eq m n) xs) (list_any (λ m. nat_eq m n) ys) e
 
 leads_in : (to : ℕ) (code : List Placed) (k : ℕ) (x : Placed) → slice_get code k ≡ Some x → list_any (λ m. nat_eq m to) (leads x.form) ≡ true → list_any (λ m. nat_eq m to) (flat_map (λ y. leads y.form) code) ≡ true
 leads_in to [] k x e l = absurd (cc)

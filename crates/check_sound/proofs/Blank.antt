@@ -2,8 +2,8 @@
 use Rattle.std.proofs.Common.{◌≡◌, ℕ, zero, suc, ◌<◌, ◌-◌, ◌+◌, List, [], ◌∷◌, ◌++◌, ◌⊎◌, length, map, get_or, slice_get, Bool, true, false, not, ◌||◌, cond, nat_eq, nat_lt, pos, Some, None, refl, sym, ◌∙◌, ap, subst, arith, inl, inr}
 use Rattle.std.specs.Prelude.{filter}
 use Rattle.std.specs.List.{list_all}
-use Rattle.std.proofs.lemmas.Bool.{cases_Bool, not-true, or_cases, eqb-true, eq-eqb, ltb-true, ltb-false, or_left, or_right}
-use Rattle.std.proofs.lemmas.{List.length-replicate, List.get_or-replicate, Option.slice_get-get_or}
+use Rattle.std.proofs.lemmas.Bool.{cases_Bool, and_parts, not-true, or_cases, eqb-true, eq-eqb, ltb-true, ltb-false, or_left, or_right}
+use Rattle.std.proofs.lemmas.{List.length-replicate, List.get_or-replicate, List.Folds.list_any-append, Option.slice_get-get_or, Map.Views.any-filter_same}
 use Rattle.jvm_model.specs.declared.{values.Value.Value, values.Base.Base, values.Kind.Kind, values.Head.Head, program.Program.Program}
 use Rattle.jvm_model.specs.declared.values.Value.TheVariants as value
 use Rattle.jvm_model.specs.declared.values.Base.TheVariants as base
@@ -92,8 +92,7 @@ module _ (p : Program) (ty : IsTyped p) where
   opened_default w d (value.Int n) i h o = o
   opened_default w d (value.Long n) i h o = eqb-true (first_or 0 d) 74 o
   opened_default w d value.Null i h o = null_at w d h o
-  opened_default w d (value.Lit n) i h o = absurd i
-  opened_default w d (value.Obj n) i h o = absurd i
+  opened_default w d _ i h o = absurd i
 
   pub default_declared : (w : World) (f : ℕ) → IsField p f → is_static (field_at p f).flags ≡ false → IsDeclared p w (field_at p f).descriptor (default_of (field_at p f).descriptor)
   default_declared w f h s =
@@ -103,16 +102,8 @@ module _ (p : Program) (ty : IsTyped p) where
 
   -- ---- the fields of a layout
 
-  filtered : (g : ℕ → Bool) (f : ℕ) (xs : List ℕ) → member f (filter g xs) ≡ true → (member f xs ≡ true) × (g f ≡ true)
-  filtered g f [] m = absurd (cc)
-  filtered g f (x ∷ xs) m = by (g x) refl m (filtered g f xs)
-    where
-      by : (b : Bool) → g x ≡ b → member f (cond b (x ∷ filter g xs) (filter g xs)) ≡ true → (member f (filter g xs) ≡ true → (member f xs ≡ true) × (g f ≡ true)) → (member f (x ∷ xs) ≡ true) × (g f ≡ true)
-      by true q m k = elim (or_cases (nat_eq f x) (member f (filter g xs)) m) [
-        | inl e ↦ (or_left (nat_eq f x) (member f xs) e, subst (λ (y : ℕ). g y ≡ true) (sym (eqb-true f x e)) q)
-        | inr e ↦ let r = k e in (or_right (nat_eq f x) (member f xs) r.0, r.1)
-      ]
-      by false q m k = let r = k m in (or_right (nat_eq f x) (member f xs) r.0, r.1)
+  filtered : (g : ℕ → Bool) (f : ℕ) (xs : List ℕ) → member f (filter g xs) ≡ true → (g f ≡ true) × (member f xs ≡ true)
+  filtered g f xs m = and_parts (g f) (member f xs) (sym (any-filter_same (nat_eq f) g (g f) (λ k e. ap g (sym (eqb-true f k e))) xs) ∙ m)
 
   member_index : (f : ℕ) (xs : List ℕ) → member f xs ≡ true → (k : ℕ) × (k < length xs) × (get_or xs k 0 ≡ f)
   member_index f [] m = absurd (cc)
@@ -122,11 +113,7 @@ module _ (p : Program) (ty : IsTyped p) where
   ]
 
   any_parts : (f : ℕ) (xs ys : List ℕ) → member f (xs ++ ys) ≡ true → (member f xs ≡ true) ⊎ (member f ys ≡ true)
-  any_parts f [] ys m = inr m
-  any_parts f (x ∷ xs) ys m = elim (or_cases (nat_eq f x) (member f (xs ++ ys)) m) [
-    | inl e ↦ inl (or_left (nat_eq f x) (member f xs) e)
-    | inr e ↦ elim (any_parts f xs ys e) [ inl l ↦ inl (or_right (nat_eq f x) (member f xs) l) | inr r ↦ inr r ]
-  ]
+  any_parts f xs ys m = or_cases (member f xs) (member f ys) (sym (list_any-append (nat_eq f) xs ys) ∙ m)
 
   -- a field of a layout is an instance field of the program
   pub record PlainField (f : ℕ) : Type 0 where
@@ -139,9 +126,9 @@ module _ (p : Program) (ty : IsTyped p) where
     | inl l ↦ in_layout f cs (λ d q. k d (or_right (nat_eq d c) (member d cs) q)) l
     | inr r ↦
         let q = filtered (λ g. not (is_static (field_at p g).flags)) f (class_at p c).fields r in
-        let i = member_index f (class_at p c).fields q.0 in
+        let i = member_index f (class_at p c).fields q.1 in
         let n = ty.linked.numbers.classes c (k c (or_left (nat_eq c c) (member c cs) (eq-eqb c c refl))) in
-        record { is_field = subst (λ (y : ℕ). IsField p y) i.2 (n.fields i.0 0 i.1); plain = not-true _ q.1 }
+        record { is_field = subst (λ (y : ℕ). IsField p y) i.2 (n.fields i.0 0 i.1); plain = not-true _ q.0 }
   ]
 
   pub layout_field : (c f : ℕ) → IsClass p c → member f (layout p c) ≡ true → PlainField f
@@ -177,13 +164,9 @@ module _ (p : Program) (ty : IsTyped p) where
   ]
 
   element_declared : (w : World) (d : ℕ) (b : Base) → 0 < d → IsDeclared p w (element_text p (kind.Array d b)) (element_default d b)
-  element_declared w d base.Boolean h = cell w d base.Boolean (value.Int (pos 0)) h refl
-  element_declared w d base.Byte h = cell w d base.Byte (value.Int (pos 0)) h refl
-  element_declared w d base.Char h = cell w d base.Char (value.Int (pos 0)) h refl
-  element_declared w d base.Short h = cell w d base.Short (value.Int (pos 0)) h refl
-  element_declared w d base.Int h = cell w d base.Int (value.Int (pos 0)) h refl
   element_declared w d base.Long h = cell w d base.Long (value.Long (pos 0)) h refl
   element_declared w d (base.Class c) h = cell w d (base.Class c) value.Null h tt
+  element_declared w d b h = cell w d b (value.Int (pos 0)) h refl
 
   pub blank_new : (w : World) (h : Head) → IsKind p h.kind → IsNew p w (blank p h)
   unfolding blank

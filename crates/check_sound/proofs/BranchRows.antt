@@ -28,9 +28,8 @@ found [] other n = (or_left (nat_eq other other) false (eq-eqb other other refl)
 found (x ∷ ps) other n = by (int_eq x.0 n) (found ps other n)
   where
     later : (a b c : Bool) → (a || c) ≡ true → (a || (b || c)) ≡ true
-    later true b c e = refl
-    later false true c e = refl
     later false false c e = e
+    later _ _ c e = refl
 
     by : (b : Bool) → (list_any (λ m. nat_eq m (lookup_target ps other n)) (other ∷ map (λ x. x.1) ps) ≡ true) × ((P : ℕ → Type 0) → All (λ x. P x.1) ps → P other → P (lookup_target ps other n))
         → (list_any (λ m. nat_eq m (cond b x.1 (lookup_target ps other n))) (other ∷ x.1 ∷ map (λ x. x.1) ps) ≡ true) × ((P : ℕ → Type 0) → All (λ x. P x.1) (x ∷ ps) → P other → P (cond b x.1 (lookup_target ps other n)))

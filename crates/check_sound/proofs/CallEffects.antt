@@ -1,5 +1,5 @@
 -- What a call leaves of the frame of types, and the values that it gives.
-use Rattle.std.proofs.Common.{◌≡◌, ℕ, ◌≤◌, List, [], ◌∷◌, ◌++◌, length, drop, Bool, true, false, Option, Some, None, refl, sym, ◌∙◌, subst, arith}
+use Rattle.std.proofs.Common.{◌≡◌, ℕ, ◌≤◌, List, [], ◌∷◌, ◌++◌, length, drop, Bool, true, false, Option, Some, refl, sym, ◌∙◌, subst, arith}
 use Rattle.std.specs.Prelude.{slice_index_or}
 use Rattle.std.proofs.lemmas.{List.length-append, List.length-reverse, Option.same_Some, Bool.and_parts, Bool.eqb-true, Bool.leb-true}
 use Rattle.std.specs.Str.{bytes_eq}
@@ -31,9 +31,8 @@ module _ (p : Program) (lk : Linked p) where
 
   -- an uninitialised object becomes one of its class
   start_of : (w : World) (c : ℕ) (x : Option ℕ) (k : Kind) → IsClass p c → is_that c x ≡ true → is_class_with (λ d. is_that d x) k ≡ true → IsInstance p k (name_of p c)
-  start_of w c None k h a b = absurd (cc)
-  start_of w c (Some d) (kind.Array n b) h a q = absurd (cc)
   start_of w c (Some d) (kind.Class k) h a b = subst (λ (x : ℕ). IsInstance p (kind.Class x) (name_of p c)) (eqb-true c d a ∙ sym (eqb-true k d b)) (instance_itself p lk c h)
+  start_of w c _ _ h a b = absurd (cc)
 
   pub this_of : (c : ℕ) (k : Kind) → IsClass p c → is_class_with (λ d. is_below p d c) k ≡ true → IsInstance p k (name_of p c)
   this_of c (kind.Class d) h b = below_is p lk d c h b
@@ -42,19 +41,9 @@ module _ (p : Program) (lk : Linked p) where
   starts : (w : World) (e : Environment) (c : ℕ) (t : VType) → IsClass p c → IsClass p e.class → is_start p e c t ≡ true → (v : Value) → HasType p w e t v → HasType p w e (started p e c t) v
   starts w e c UninitThis h g q (value.Obj o) i = (i.0, this_of e.class (kind_at w o) g i.1)
   starts w e c (Uninit pc) h g q (value.Obj o) i = (i.0, start_of w c (made_at e pc) (kind_at w o) h q i.1)
-  starts w e c UninitThis h g q (value.Int n) i = absurd i
-  starts w e c UninitThis h g q (value.Long n) i = absurd i
-  starts w e c UninitThis h g q value.Null i = absurd i
-  starts w e c UninitThis h g q (value.Lit n) i = absurd i
-  starts w e c (Uninit pc) h g q (value.Int n) i = absurd i
-  starts w e c (Uninit pc) h g q (value.Long n) i = absurd i
-  starts w e c (Uninit pc) h g q value.Null i = absurd i
-  starts w e c (Uninit pc) h g q (value.Lit n) i = absurd i
-  starts w e c Top h g q v i = absurd (cc)
-  starts w e c Int h g q v i = absurd (cc)
-  starts w e c Long h g q v i = absurd (cc)
-  starts w e c Null h g q v i = absurd (cc)
-  starts w e c (Object a) h g q v i = absurd (cc)
+  starts w e c UninitThis h g q v i = absurd i
+  starts w e c (Uninit pc) h g q v i = absurd i
+  starts w e c _ h g q v i = absurd (cc)
 
   -- the need below others
   pub meet_at : (ns : List OperandConstraint) (n : OperandConstraint) (ts : List VType) → length (ns ++ n ∷ []) ≤ length ts → meet_all p (ns ++ n ∷ []) ts ≡ true → meets p n (slice_index_or ts (length ns) Top) ≡ true
@@ -64,13 +53,8 @@ module _ (p : Program) (lk : Linked p) where
   meet_at (k ∷ ns) n (t ∷ ts) h m = meet_at ns n ts (omega arith) (and_parts (meets p k t) (meet_all p (ns ++ n ∷ []) ts) m).1
 
   not_top : (t : VType) → is_raw t ≡ true → same Top t ≡ false
-  not_top UninitThis m = refl
-  not_top (Uninit pc) m = refl
   not_top Top m = absurd (cc)
-  not_top Int m = refl
-  not_top Long m = refl
-  not_top Null m = refl
-  not_top (Object a) m = refl
+  not_top _ m = refl
 
   init_call : (e : Environment) (f : Slots) (m : MethodRec) → IsClass p m.class → IsClass p e.class → (let t = place_of f (length (argument_needs m.descriptor)) in is_start p e m.class t ≡ true) → is_raw (place_of f (length (argument_needs m.descriptor))) ≡ true
       → CallEffects p e f (init_sides p e f m (place_of f (length (argument_needs m.descriptor)))) m
@@ -121,24 +105,9 @@ Result p w ts vs = ⊥
 narrow_plain : (p : Program) (w : World) (t : VType) (u : ℕ) (v : Value) → HasPlain p w t v → HasPlain p w t (narrow u v)
 unfolding narrow
 narrow_plain p w Int u (value.Int n) h = tt
-narrow_plain p w Int u (value.Long n) h = h
-narrow_plain p w Int u value.Null h = h
-narrow_plain p w Int u (value.Lit n) h = h
-narrow_plain p w Int u (value.Obj n) h = h
 narrow_plain p w (Object a) u (value.Int n) h = absurd h
-narrow_plain p w (Object a) u (value.Long n) h = h
-narrow_plain p w (Object a) u value.Null h = h
-narrow_plain p w (Object a) u (value.Lit n) h = h
-narrow_plain p w (Object a) u (value.Obj n) h = h
 narrow_plain p w Long u (value.Int n) h = absurd h
-narrow_plain p w Long u (value.Long n) h = h
-narrow_plain p w Long u value.Null h = h
-narrow_plain p w Long u (value.Lit n) h = h
-narrow_plain p w Long u (value.Obj n) h = h
-narrow_plain p w Top u v h = absurd h
-narrow_plain p w Null u v h = absurd h
-narrow_plain p w UninitThis u v h = absurd h
-narrow_plain p w (Uninit k) u v h = absurd h
+narrow_plain p w _ u _ h = h
 
 pub narrowed_plain : (p : Program) (w : World) (t : VType) (d : List ℕ) (v : Value) → HasPlain p w t v → HasPlain p w t (narrowed d v)
 narrowed_plain p w t [] v h = h
@@ -147,10 +116,7 @@ narrowed_plain p w t (u ∷ us) v h = narrow_plain p w t u v h
 narrow_range : (p : Program) (w : World) (u : ℕ) (v : Value) → IsInRange p w v → IsInRange p w (narrow u v)
 unfolding narrow
 narrow_range p w u (value.Int n) h = tt
-narrow_range p w u (value.Long n) h = h
-narrow_range p w u value.Null h = h
-narrow_range p w u (value.Lit n) h = h
-narrow_range p w u (value.Obj n) h = h
+narrow_range p w u _ h = h
 
 pub narrowed_range : (p : Program) (w : World) (d : List ℕ) (v : Value) → IsInRange p w v → IsInRange p w (narrowed d v)
 narrowed_range p w [] v h = h
@@ -165,45 +131,23 @@ push p w e (Long ∷ []) us (value.Long n ∷ []) ws r h = long_on h
 push p w e (Object a ∷ []) us (value.Null ∷ []) ws r h = on_top tt (record { type = r.0; range = r.1 }) h
 push p w e (Object a ∷ []) us (value.Lit n ∷ []) ws r h = on_top tt (record { type = r.0; range = r.1 }) h
 push p w e (Object a ∷ []) us (value.Obj n ∷ []) ws r h = on_top tt (record { type = r.0; range = r.1 }) h
-push p w e (Object a ∷ []) us (value.Int n ∷ []) ws r h = absurd r.0
-push p w e (Object a ∷ []) us (value.Long n ∷ []) ws r h = absurd r.0
-push p w e (Int ∷ []) us (v ∷ []) ws r h = absurd r.0
-push p w e (Long ∷ []) us (v ∷ []) ws r h = absurd r.0
-push p w e (Top ∷ []) us (v ∷ []) ws r h = absurd r.0
-push p w e (Null ∷ []) us (v ∷ []) ws r h = absurd r.0
-push p w e (UninitThis ∷ []) us (v ∷ []) ws r h = absurd r.0
-push p w e (Uninit k ∷ []) us (v ∷ []) ws r h = absurd r.0
-push p w e (t ∷ []) us [] ws r h = absurd r
-push p w e (t ∷ []) us (v ∷ x ∷ vs) ws r h = absurd r
-push p w e (t ∷ u ∷ ts) us vs ws r h = absurd r
+push p w e (_ ∷ []) us (_ ∷ []) ws r h = absurd r.0
+push p w e _ us _ ws r h = absurd r
 
 -- there are no more values than places
 pub values_few : (p : Program) (w : World) (e : Environment) (ts : List VType) (vs : List Value) → HaveStackTypes p w e ts vs → length vs ≤ length ts
 values_few p w e ts [] h = omega arith
-values_few p w e (t ∷ ts) (value.Int n ∷ vs) h = let q = values_few p w e ts vs h.1 in omega arith
-values_few p w e (t ∷ ts) (value.Null ∷ vs) h = let q = values_few p w e ts vs h.1 in omega arith
-values_few p w e (t ∷ ts) (value.Lit n ∷ vs) h = let q = values_few p w e ts vs h.1 in omega arith
-values_few p w e (t ∷ ts) (value.Obj n ∷ vs) h = let q = values_few p w e ts vs h.1 in omega arith
 values_few p w e (Top ∷ t ∷ ts) (value.Long n ∷ vs) h = let q = values_few p w e ts vs h.1 in omega arith
-values_few p w e (Top ∷ []) (value.Long n ∷ vs) h = absurd h
-values_few p w e (t ∷ ts) (value.Long n ∷ vs) h = absurd h
-values_few p w e [] (value.Long n ∷ vs) h = absurd h
-values_few p w e [] (value.Int n ∷ vs) h = absurd h
-values_few p w e [] (value.Null ∷ vs) h = absurd h
-values_few p w e [] (value.Lit n ∷ vs) h = absurd h
-values_few p w e [] (value.Obj n ∷ vs) h = absurd h
+values_few p w e _ (value.Long n ∷ vs) h = absurd h
+values_few p w e (t ∷ ts) (_ ∷ vs) h = let q = values_few p w e ts vs h.1 in omega arith
+values_few p w e _ _ h = absurd h
 
 pub on_stack_length : (ts : List VType) → length ts ≤ length (on_stack ts)
 on_stack_length ts = let a = length-reverse (spread ts) in let b = spread_length ts in omega arith
   where
     one : (t : VType) → 1 ≤ length (places_of t)
     one Long = omega arith
-    one Top = omega arith
-    one Int = omega arith
-    one Null = omega arith
-    one (Object a) = omega arith
-    one UninitThis = omega arith
-    one (Uninit k) = omega arith
+    one _ = omega arith
 
     spread_length : (ts : List VType) → length ts ≤ length (spread ts)
     spread_length [] = omega arith

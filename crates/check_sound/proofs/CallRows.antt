@@ -21,7 +21,7 @@ use Rattle.jvm_model.specs.Linked.{Linked, IsClass, IsMethod, IsKind, IsFoundIn}
 use Rattle.jvm_model.specs.RowsCalls.{enters_native, calls, calls_selected, argument_count, on_receiver, receiver, call_virtual, call_interface, call_special, row_calls}
 use Rattle.jvm_model.specs.Step.{group_of, calls as of_calls}
 use Rattle.type_frames.specs.declared.{vtype.VType.VType, stack_effect.OperandConstraint.OperandConstraint}
-use Rattle.type_frames.specs.declared.vtype.VType.TheVariants.{Top, Int, Long, Null, Object, UninitThis, Uninit}
+use Rattle.type_frames.specs.declared.vtype.VType.TheVariants.{Top, Long, Null, Object, UninitThis, Uninit}
 use Rattle.type_frames.specs.declared.stack_effect.OperandConstraint.TheVariants.{Fits, Raw, Never}
 use Rattle.type_frames.specs.{declared.stack_effect.StackEffect.StackEffect, Frames.spread, Frames.places_of, Environment.Environment, Environment.made_at}
 use Rattle.type_frames.specs.{Assign.assignable, Rules.meets, Rules.turned, Descriptors.types_of, Descriptors.name_of, Descriptors.kind_name}
@@ -34,7 +34,7 @@ use Rattle.check_sound.proofs.{Tree.typed_done, Tree.typed_spend, Grow.Ranged, A
 use Rattle.check_sound.proofs.Held.{refers_fits, Is, Held, IsShort, held_over, locals_over, is_fits}
 use Rattle.check_sound.proofs.Operands.{Operands, IsPop, popped, none_there, rest_of, choose-typed, on_reference-typed, with_kind-typed, refers_nullable, IsNonNull, IsKindOf}
 use Rattle.check_sound.proofs.Ready.{TypedEntries, stub, closed, below_same, Takes, Gives, operand_types, NativeCall, Enters, Ends, Row, Ready, here, sides_at, rest, operands, next_typed, raised_typed, waits_typed, names_form, form_kind, form_found, ranged_append}
-use Rattle.check_sound.proofs.Thrown.{builtin_is, abstract_thrown, overflow_thrown, null_pointer_thrown}
+use Rattle.check_sound.proofs.Thrown.{builtin_is, thrown}
 use Rattle.check_sound.proofs.CallEffects.{values_few, on_stack_length, this_of, CallEffects, call_of, Result, push}
 use Rattle.check_sound.proofs.{ReturnRows.home, ReturnRows.named_class, ParameterTexts.AreTexts}
 use Rattle.check_sound.proofs.Arguments.{method_texts, Arguments, arguments_reverse, Taken, take_args, text_slots, EntersWith, entered_frame, takes_args, takes_append, one_each_reverse}
@@ -59,8 +59,7 @@ record Given (p : Program) (w : World) (ts : List VType) (vs rest : List Value) 
 given_of : (p : Program) (w : World) (ts : List VType) (vs rest : List Value) → Gives p w ts vs rest → Given p w ts vs rest
 given_of p w [] vs rest h = record { results = []; split = h; result = refl }
 given_of p w (t ∷ []) (v ∷ vs) rest h = record { results = v ∷ []; split = ap {B = List Value} (λ xs. v ∷ xs) h.2; result = (h.0, h.1) }
-given_of p w (t ∷ []) [] rest h = absurd h
-given_of p w (t ∷ u ∷ ts) vs rest h = absurd h
+given_of p w _ _ rest h = absurd h
 
 same_body : {a b : Body} → Some a ≡ Some b → a ≡ b
 same_body e = cc
@@ -146,8 +145,8 @@ module _ (p : Program) (ty : IsTyped p) {w : World} {s : Entries} {i : Instr} (r
 
       by : (x : Option Native) (b : Option Body) → (method_at p m).native ≡ x → (method_at p m).body ≡ b → Row p w (enters_native x b m n s)
       by (Some x) b hx hb = typed_done (subst (λ (y : Option Native). Enters p w m y s) (sym hx) (native_typed named m n c q a))
-      by None None hx hb = typed_done (fault_typed p ty r abstract_method_error s.top.stack (abstract_thrown p ty.linked) r.stack.range)
-      by None (Some b) hx hb = choose-typed p (Ends p) w (is_full s) (λ e. typed_done (fault_typed p ty r stack_overflow_error s.top.stack (overflow_thrown p ty.linked) r.stack.range))
+      by None None hx hb = typed_done (fault_typed p ty r abstract_method_error s.top.stack (thrown p ty.linked abstract_method_error refl) r.stack.range)
+      by None (Some b) hx hb = choose-typed p (Ends p) w (is_full s) (λ e. typed_done (fault_typed p ty r stack_overflow_error s.top.stack (thrown p ty.linked stack_overflow_error refl) r.stack.range))
           (λ e. typed_spend (typed_done (subst (λ (y : Option Native). Enters p w m y (called b m n s)) (sym hx) (called_typed named m n b c q a hb e))))
 
 -- ---- the receiver
@@ -156,11 +155,8 @@ short_slots : (w : World) (e : Environment) (p : Program) (x : VType) (ts : List
 short_slots w e p x ts v vs q s h g = subst (λ (xs : List VType). HaveTypes p w e (xs ++ spread ts) (slots_of (v ∷ vs))) (sym q) (by v s h)
   where
     by : (v : Value) → IsShort v → HasType p w e x v → HaveTypes p w e (x ∷ spread ts) (slots_of (v ∷ vs))
-    by (value.Int n) s h = (h, g)
-    by value.Null s h = (h, g)
-    by (value.Lit n) s h = (h, g)
-    by (value.Obj n) s h = (h, g)
     by (value.Long n) s h = absurd s
+    by _ s h = (h, g)
 
 -- the type of `this` in a method that isn't static
 abbrev pub this_type : Program → MethodRec → VType
@@ -297,9 +293,7 @@ plain_this p w e m v c h = subst (λ (b : Bool). HasType p w e (cond b UninitThi
 kind_refers : (p : Program) (w : World) (v : Value) (x : Kind) (a : List ℕ) → IsKindOf p w v x → IsInRange p w v → IsInstance p x a → RefersTo p w a v
 kind_refers p w (value.Lit n) x a k g h = (g, subst (λ (z : Kind). IsInstance p z a) k h)
 kind_refers p w (value.Obj o) x a k g h = (g, subst (λ (z : Kind). IsInstance p z a) k.0 h)
-kind_refers p w (value.Int n) x a k g h = absurd k
-kind_refers p w (value.Long n) x a k g h = absurd k
-kind_refers p w value.Null x a k g h = absurd k
+kind_refers p w _ x a k g h = absurd k
 
 known_kind : (p : Program) (lk : Linked p) (w : World) (v : Value) (x : Kind) → IsKindOf p w v x → IsKind p x
 known_kind p lk w (value.Lit n) x k = subst (λ (z : Kind). IsKind p z) (sym k) (either (nat_eq n 0))
@@ -308,9 +302,7 @@ known_kind p lk w (value.Lit n) x k = subst (λ (z : Kind). IsKind p z) (sym k) 
     either true = builtin_is p lk stream_class (omega arith)
     either false = builtin_is p lk string_class (omega arith)
 known_kind p lk w (value.Obj o) x k = k.1
-known_kind p lk w (value.Int n) x k = absurd k
-known_kind p lk w (value.Long n) x k = absurd k
-known_kind p lk w value.Null x k = absurd k
+known_kind p lk w _ x k = absurd k
 
 module _ (p : Program) (ty : IsTyped p) {w : World} {s : Entries} {i : Instr} (r : Ready p w s i) where
   -- the method that was selected for the receiver is called
@@ -325,7 +317,7 @@ module _ (p : Program) (ty : IsTyped p) {w : World} {s : Entries} {i : Instr} (r
   -- the receiver isn't null
   on_receiver-typed : (named : ℕ) (n : OperandConstraint) (a : Received p w r (method_at p named).descriptor n) (b : List ℕ) → RefersTo p w b a.receiver → (k : Value → Access (Answer Entries)) → (IsNonNull a.receiver → Row p w (k a.receiver)) → Row p w (on_receiver s (receiver p named s) k)
   on_receiver-typed named n a b h k f = subst (λ (o : Option Value). Row p w (on_receiver s o k)) (sym (receiver_is p ty r (method_at p named).descriptor n named a refl))
-      (on_reference-typed p (Ends p) w s a.receiver (refers_nullable p w b a.receiver h) (fault_typed p ty r null_pointer_exception s.top.stack (null_pointer_thrown p ty.linked) r.stack.range) f)
+      (on_reference-typed p (Ends p) w s a.receiver (refers_nullable p w b a.receiver h) (fault_typed p ty r null_pointer_exception s.top.stack (thrown p ty.linked null_pointer_exception refl) r.stack.range) f)
 
 module _ (p : Program) (ty : IsTyped p) {w : World} {s : Entries} where
   pub invoke_virtual : (k : Kind) (m : ℕ) → Ready p w s (form.InvokeVirtual k m) → Row p w (row_calls p (form.InvokeVirtual k m) s)
@@ -368,29 +360,17 @@ starts_this p lk w e d c UninitThis (value.Obj o) h g q z i = (i.0, subst (λ (x
 starts_this p lk w e d c (Uninit pc) (value.Obj o) h g q z i = (i.0, subst (λ (x : ℕ). is_class_with (λ k. is_below p k x) (kind_at w o) ≡ true) (sym q) (made (made_at e pc) (kind_at w o) z i.1))
   where
     made : (x : Option ℕ) (k : Kind) → is_that c x ≡ true → is_class_with (λ y. is_that y x) k ≡ true → is_class_with (λ y. is_below p y c) k ≡ true
-    made None k a b = absurd (cc)
-    made (Some y) (kind.Array n b) a k = absurd (cc)
     made (Some y) (kind.Class k) a b = subst (λ (x : ℕ). is_below p k x ≡ true) (eqb-true k y b ∙ sym (eqb-true c y a)) (itself_below p k)
-starts_this p lk w e d c UninitThis (value.Int n) h g q z i = i
-starts_this p lk w e d c UninitThis (value.Long n) h g q z i = i
-starts_this p lk w e d c UninitThis value.Null h g q z i = i
-starts_this p lk w e d c UninitThis (value.Lit n) h g q z i = i
-starts_this p lk w e d c (Uninit pc) (value.Int n) h g q z i = absurd i
-starts_this p lk w e d c (Uninit pc) (value.Long n) h g q z i = absurd i
-starts_this p lk w e d c (Uninit pc) value.Null h g q z i = absurd i
-starts_this p lk w e d c (Uninit pc) (value.Lit n) h g q z i = absurd i
-starts_this p lk w e d c Top v h g q z i = absurd (cc)
-starts_this p lk w e d c Int v h g q z i = absurd (cc)
-starts_this p lk w e d c Long v h g q z i = absurd (cc)
-starts_this p lk w e d c Null v h g q z i = absurd (cc)
-starts_this p lk w e d c (Object a) v h g q z i = absurd (cc)
+    made _ _ a b = absurd (cc)
+starts_this p lk w e d c UninitThis v h g q z i = i
+starts_this p lk w e d c (Uninit pc) v h g q z i = absurd i
+starts_this p lk w e d c _ v h g q z i = absurd (cc)
 
 this_refers : (p : Program) (lk : Linked p) (w : World) (e : Environment) (v : Value) → IsClass p e.class → HasType p w e UninitThis v → RefersTo p w (name_of p e.class) v
 this_refers p lk w e (value.Obj o) h i = (i.0, this_of p lk e.class (kind_at w o) h i.1)
-this_refers p lk w e (value.Int n) h i = i
-this_refers p lk w e (value.Long n) h i = i
 this_refers p lk w e value.Null h i = absurd i
 this_refers p lk w e (value.Lit n) h i = absurd i
+this_refers p lk w e _ h i = i
 
 module _ (p : Program) (ty : IsTyped p) {w : World} {s : Entries} where
   current_class : {i : Instr} (r : Ready p w s i) → IsClass p (method_at p s.top.number).class

@@ -14,7 +14,7 @@ use Rattle.type_frames.specs.TypedState.{kind_at, IsInstance, RefersTo}
 use Rattle.check_sound.proofs.Held.{Is, Held, on_top, int_on}
 use Rattle.check_sound.proofs.Operands.{rest_of, popping-fits, head-typed, choose-typed}
 use Rattle.check_sound.proofs.Ready.{Ends, Row, Ready, here, rest, operands, on, raised_typed}
-use Rattle.check_sound.proofs.{Thrown.builtin_is, Thrown.class_cast_thrown, Thrown.null_pointer_thrown, Ready.names_form}
+use Rattle.check_sound.proofs.{Thrown.builtin_is, Thrown.thrown, Ready.names_form}
 use Rattle.check_sound.proofs.LibraryTypes.{constant_is_kind, throwable_plain, no_throwable}
 
 module _ (p : Program) (lk : Linked p) where
@@ -29,16 +29,15 @@ module _ (p : Program) (ty : IsTyped p) {w : World} {s : Entries} where
   unfolding sides
   cast_to-typed k r v vs x h i f = choose-typed p (Ends p) w (kind_fits p x k)
       (λ q. on p ty r refl r.locals (f (kind_instance p ty.linked x k i (names_form p ty r) q)))
-      (λ q. typed_done (fault_typed p ty r class_cast_exception vs (class_cast_thrown p ty.linked) h.range))
+      (λ q. typed_done (fault_typed p ty r class_cast_exception vs (thrown p ty.linked class_cast_exception refl) h.range))
 
   cast-typed : (k : Kind) (r : Ready p w s (form.CheckCast k)) (a : List ℕ) (v : Value) (vs : List Value) → Is p w (here r) (Object a) v → Held p w (here r) (rest r) vs → Row p w (cast p k s v vs)
   unfolding sides
-  cast-typed k r a (value.Int n) vs i h = absurd i.type
-  cast-typed k r a (value.Long n) vs i h = absurd i.type
   cast-typed k r a value.Null vs i h = on p ty r refl r.locals (on_top tt (record { type = tt; range = tt }) h)
   cast-typed k r a (value.Lit n) vs i h = cast_to-typed k r (value.Lit n) vs (constant_kind n) h (constant_is_kind p ty.linked n) (λ q. on_top tt (record { type = (i.range, q); range = i.range }) h)
   cast-typed k r a (value.Obj o) vs i h = head-typed p (Ends p) w o i.range (λ x.
       cast_to-typed k r (value.Obj o) vs (kind_at w o) h x (λ q. on_top tt (record { type = (i.range, q); range = i.range }) h))
+  cast-typed k r a _ vs i h = absurd i.type
 
   pub check_cast : (k : Kind) → Ready p w s (form.CheckCast k) → Row p w (row_casts p (form.CheckCast k) s)
   unfolding row_casts sides
@@ -46,11 +45,10 @@ module _ (p : Program) (ty : IsTyped p) {w : World} {s : Entries} where
 
   tested-typed : (k : Kind) (r : Ready p w s (form.InstanceOf k)) (a : List ℕ) (v : Value) (vs : List Value) → Is p w (here r) (Object a) v → Held p w (here r) (rest r) vs → Row p w (tested p k s v vs)
   unfolding sides
-  tested-typed k r a (value.Int n) vs i h = absurd i.type
-  tested-typed k r a (value.Long n) vs i h = absurd i.type
   tested-typed k r a value.Null vs i h = on p ty r refl r.locals (int_on h)
   tested-typed k r a (value.Lit n) vs i h = on p ty r refl r.locals (int_on h)
   tested-typed k r a (value.Obj o) vs i h = head-typed p (Ends p) w o i.range (λ x. on p ty r refl r.locals (int_on h))
+  tested-typed k r a _ vs i h = absurd i.type
 
   pub instance_of : (k : Kind) → Ready p w s (form.InstanceOf k) → Row p w (row_casts p (form.InstanceOf k) s)
   unfolding row_casts sides
@@ -63,11 +61,10 @@ module _ (p : Program) (ty : IsTyped p) {w : World} {s : Entries} where
 
   -- athrow
   raises : (r : Ready p w s form.Throw) → (v : Value) → RefersTo p w (name_of p throwable_class) v → Row p w (on_object s v (λ o. done (answer (Raise v) s)))
-  raises r (value.Int n) h = absurd h
-  raises r (value.Long n) h = absurd h
-  raises r value.Null h = typed_done (fault_typed p ty r null_pointer_exception s.top.stack (null_pointer_thrown p ty.linked) r.stack.range)
+  raises r value.Null h = typed_done (fault_typed p ty r null_pointer_exception s.top.stack (thrown p ty.linked null_pointer_exception refl) r.stack.range)
   raises r (value.Lit n) h = absurd (no_throwable p ty.linked n h.1)
   raises r (value.Obj o) h = typed_known o h.0 (λ k. typed_done ((h.0, throwable_below p ty.linked (kind_at w o) k h.1), raised_typed p ty r (value.Obj o) s.top.stack r.stack.range))
+  raises r _ h = absurd h
 
   pub throw-typed : Ready p w s form.Throw → Row p w (row_throw s)
   unfolding row_throw sides

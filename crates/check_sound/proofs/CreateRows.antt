@@ -18,7 +18,7 @@ use Rattle.type_frames.specs.Environment.{Environment, found_at, class_made, mad
 use Rattle.type_frames.specs.TypedState.{kind_at, IsInstance, is_class_with, HasType}
 use Rattle.check_sound.proofs.Operands.{rest_of, popping-fits, on_int-typed, choose-typed}
 use Rattle.check_sound.proofs.Held.{Is, Held, on_top, locals_over, held_over, locals_turned, held_turned}
-use Rattle.check_sound.proofs.{Ends.fault_typed, Ends.using-typed, Ends.new_kind, Thrown.instantiation_thrown, Thrown.negative_size_thrown, Blank.blank_new}
+use Rattle.check_sound.proofs.{Ends.fault_typed, Ends.using-typed, Ends.new_kind, Thrown.thrown, Blank.blank_new}
 use Rattle.check_sound.proofs.Ready.{Ends, Row, Ready, here, rest, operands, on, names_form}
 
 -- ---- the class that a `new` names
@@ -77,7 +77,7 @@ module _ (p : Program) (ty : IsTyped p) {w : World} {s : Entries} where
   pub new : (c : ℕ) → Ready p w s (form.New c) → Row p w (row_create p (form.New c) s)
   unfolding row_create
   new c r = choose-typed p (Ends p) w (is_bare p c)
-      (λ q. typed_done (fault_typed p ty r instantiation_error s.top.stack (instantiation_thrown p ty.linked) r.stack.range))
+      (λ q. typed_done (fault_typed p ty r instantiation_error s.top.stack (thrown p ty.linked instantiation_error refl) r.stack.range))
       (λ q. using-typed p ty r c (names_form p ty r) (new_object-typed c r))
 
   -- ---- arrays
@@ -89,7 +89,7 @@ module _ (p : Program) (ty : IsTyped p) {w : World} {s : Entries} where
       let g = grows_make p w x in
       typed_spend (typed_make (blank_new p ty w (array_head k n) h) (on p ty (ready_grows g r) refl (locals_over g.over r.locals)
       (on_top tt (made_type p ty w k x (here r) h refl) (held_over g.over i))))
-  sized_array k r vs h i (negsuc n) = typed_done (fault_typed p ty r negative_size_exception vs (negative_size_thrown p ty.linked) i.range)
+  sized_array k r vs h i (negsuc n) = typed_done (fault_typed p ty r negative_size_exception vs (thrown p ty.linked negative_size_exception refl) i.range)
 
   pub new_array-typed : (k : Kind) → Ready p w s (form.NewArray k) → Row p w (row_create p (form.NewArray k) s)
   unfolding row_create sides

@@ -8,7 +8,7 @@ use Rattle.jvm_model.specs.declared.values.Value.TheVariants as value
 use Rattle.jvm_model.specs.{World.World, Access.Access, Classes.member, Narrow.narrow, Narrow.narrowed, Rows.Answer, Rows.popping, Linked.fits_int}
 use Rattle.jvm_model.proofs.NarrowedFits.{narrowed_fits, smalls}
 use Rattle.type_frames.specs.declared.{vtype.VType.VType, stack_effect.OperandConstraint.OperandConstraint}
-use Rattle.type_frames.specs.declared.vtype.VType.TheVariants.{Top, Int, Long, Null, Object, UninitThis, Uninit}
+use Rattle.type_frames.specs.declared.vtype.VType.TheVariants.{Top, Int, Long, Null, Object}
 use Rattle.type_frames.specs.{Environment.Environment, Descriptors.types_of, Descriptors.class_name, StackEffect.needs_of, Typing.IsTyped}
 use Rattle.type_frames.specs.TypedState.{IsInRange, RefersTo, IsReferenceOf, IsDeclared}
 use Rattle.check_sound.proofs.{Tree.Tree, ParameterTexts.one_type, Operands.Operands, Ready.HasPlain, CallEffects.Result, ParameterTexts.IsText}
@@ -57,16 +57,13 @@ int_unit u us h e = elim (or_cases (nat_eq u 66) _ h) [
 -- ---- a declared value as an operand
 
 refers_range : (p : Program) (w : World) (a : List ℕ) (v : Value) → RefersTo p w a v → IsInRange p w v
-refers_range p w a value.Null h = tt
 refers_range p w a (value.Lit n) h = h.0
 refers_range p w a (value.Obj o) h = h.0
-refers_range p w a (value.Int n) h = tt
-refers_range p w a (value.Long n) h = tt
+refers_range p w a _ h = tt
 
 reference_result : (p : Program) (w : World) (ts : List VType) (v : Value) → IsReferenceOf p w ts v → Result p w ts (v ∷ [])
 reference_result p w (Object a ∷ []) v h = (h, refers_range p w a v h)
-reference_result p w [] v h = absurd h
-reference_result p w (t ∷ ts) v h = absurd h
+reference_result p w _ v h = absurd h
 
 int_result : (p : Program) (w : World) (u : ℕ) (us : List ℕ) (n : ℤ) → fits_int u n ≡ true → Result p w (types_of (u ∷ us)) (value.Int n ∷ [])
 int_result p w u us n h = elim (cases_Bool (nat_eq u 90)) [
@@ -91,9 +88,7 @@ declared_result p w [] (value.Int n) h = absurd cc
 declared_result p w (u ∷ us) (value.Int n) h = int_result p w u us n h
 declared_result p w [] (value.Long n) h = absurd (let z : 0 ≡ 74 = h in omega arith)
 declared_result p w (u ∷ us) (value.Long n) h = subst (λ (x : ℕ). Result p w (types_of (x ∷ us)) (value.Long n ∷ [])) (sym h) (tt, tt)
-declared_result p w d value.Null h = reference_result p w (types_of d) value.Null h
-declared_result p w d (value.Lit n) h = reference_result p w (types_of d) (value.Lit n) h
-declared_result p w d (value.Obj o) h = reference_result p w (types_of d) (value.Obj o) h
+declared_result p w d v h = reference_result p w (types_of d) v h
 
 -- ---- what is stored of an operand
 
@@ -129,20 +124,7 @@ stored_plain p w u us Long (value.Long n) h e q = long_unit u us e
 stored_plain p w u us (Object a) value.Null h e q = subst (λ (ts : List VType). IsReferenceOf p w ts value.Null) (sym e) q
 stored_plain p w u us (Object a) (value.Lit n) h e q = subst (λ (ts : List VType). IsReferenceOf p w ts (value.Lit n)) (sym e) q
 stored_plain p w u us (Object a) (value.Obj o) h e q = subst (λ (ts : List VType). IsReferenceOf p w ts (value.Obj o)) (sym e) q
-stored_plain p w u us (Object a) (value.Int n) h e q = absurd q
-stored_plain p w u us (Object a) (value.Long n) h e q = absurd q
-stored_plain p w u us Int (value.Long n) h e q = absurd q
-stored_plain p w u us Int value.Null h e q = absurd q
-stored_plain p w u us Int (value.Lit n) h e q = absurd q
-stored_plain p w u us Int (value.Obj n) h e q = absurd q
-stored_plain p w u us Long (value.Int n) h e q = absurd q
-stored_plain p w u us Long value.Null h e q = absurd q
-stored_plain p w u us Long (value.Lit n) h e q = absurd q
-stored_plain p w u us Long (value.Obj n) h e q = absurd q
-stored_plain p w u us Top v h e q = absurd q
-stored_plain p w u us Null v h e q = absurd q
-stored_plain p w u us UninitThis v h e q = absurd q
-stored_plain p w u us (Uninit k) v h e q = absurd q
+stored_plain p w u us _ _ h e q = absurd q
 
 pub argument_stored : (p : Program) (w : World) (d : List ℕ) (v : Value) → IsText d → Argument p w d v → IsDeclared p w d (narrowed d v)
 argument_stored p w [] v h a = absurd cc

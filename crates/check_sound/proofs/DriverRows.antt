@@ -5,7 +5,7 @@ use Rattle.std.specs.{List.IsDistinct, Str.bytes_eq}
 use Rattle.std.proofs.lemmas.{Bool.or_left, Bool.or_right, Bool.eq-eqb, Option.same_Some}
 use Rattle.jvm_model.specs.declared.values.{Value.Value, Kind.Kind, Head.Head, InitState.InitState}
 use Rattle.jvm_model.specs.declared.values.Value.TheVariants as value
-use Rattle.jvm_model.specs.declared.values.InitState.TheVariants.{Idle, Running, Done, Erroneous}
+use Rattle.jvm_model.specs.declared.values.InitState.TheVariants.{Idle, Running, Erroneous}
 use Rattle.jvm_model.specs.declared.values.Location.TheVariants as place
 use Rattle.jvm_model.specs.declared.state.{EntryKind.EntryKind, EntryKind.TheVariants.Absent, EntryKind.TheVariants.InMethod, EntryKind.TheVariants.InClass}
 use Rattle.jvm_model.specs.declared.{state.Stage.Stage, outcome.Verdict.Verdict, program.Program.Program, program.TestEntry.TestEntry, program.Body.Body}
@@ -27,7 +27,7 @@ use Rattle.et_base.proofs.Texts.{units_true}
 use Rattle.check_sound.proofs.Tree.{IsSpot, typed_done, typed_read, typed_mark, typed_make, typed_spend, Over}
 use Rattle.check_sound.proofs.{Grow.Ranged, Grow.throwable_over, RaiseRows.throwable_instance, Blank.blank_new, Instances.below_is}
 use Rattle.check_sound.proofs.{Ready.TypedEntries, Ready.Rest, Ready.closed, Onward.grows_make, Onward.grows_begin, Onward.entries_grow}
-use Rattle.check_sound.proofs.{Thrown.abstract_thrown, Thrown.overflow_thrown, Thrown.no_class_thrown, Arguments.EntersWith, Arguments.entered_frame}
+use Rattle.check_sound.proofs.{Thrown.thrown, Arguments.EntersWith, Arguments.entered_frame}
 use Rattle.check_sound.proofs.Ends.{Local, TurnsTo, Step, tested, throws-typed, new_kind, stage_over}
 use Rattle.check_sound.proofs.{CallRows.this_type, CallRows.this_is, SelectLaws.found, SelectLaws.declares, SelectLaws.of_classes}
 use Rattle.check_sound.proofs.LibraryTypes.{string_name, message_spot, message_got}
@@ -39,10 +39,9 @@ none_below p w a q [] h = refl
 none_below p w a q (f ∷ fs) h = absurd (by f.kind (subst (λ (j : EntryKind). IsBelow p w f f.kind a j) q h.0))
   where
     by : (i : EntryKind) → IsBelow p w f i a Absent → ⊥
-    by InMethod h = h
     by (InClass false) h = h.1
     by (InClass true) h = h.1
-    by Absent h = h
+    by _ h = h
 
 empty_rest : (p : Program) (w : World) (n : ℕ) → Rest p w InMethod n []
 unfolding IsDistinct
@@ -74,9 +73,7 @@ plain_in p name (x ∷ ms) m e = by (is_static (method_at p x).flags) (bytes_eq 
     by false true true q d e k =
         let z : x ≡ m = same_Some _ _ e in
         (or_left (nat_eq m x) (member m ms) (eq-eqb m x (sym z)), subst (λ (y : ℕ). PlainMethod p name y) z (record { plain = q; descriptor = units_true (method_at p x).descriptor no_arguments d }))
-    by true b c q d e k = more k e
-    by false false c q d e k = more k e
-    by false true false q d e k = more k e
+    by _ _ _ q d e k = more k e
 
 -- its class
 record PlainOf (p : Program) (name : List ℕ) (m : ℕ) (cs : List ℕ) : Type 0 where
@@ -137,7 +134,7 @@ module _ (p : Program) (ty : IsTyped p) {w : World} (s : State) (h : Local p w s
   drives-typed m vs after e g q = by (method_at p m).body refl
     where
       by : (b : Option Body) → (method_at p m).body ≡ b → Step p w (driven p b m vs after s)
-      by None hb = throws-typed p ty abstract_method_error (record s { stage = after }) (abstract_thrown p ty.linked) (whatever (Some value.Null)) (record { test = h.test; stage = q })
+      by None hb = throws-typed p ty abstract_method_error (record s { stage = after }) (thrown p ty.linked abstract_method_error refl) (whatever (Some value.Null)) (record { test = h.test; stage = q })
       by (Some b) hb = typed_spend (typed_done (record { test = h.test; entries = frame_typed m b vs hb e g; raised = h.raised; stage = q }))
 
   -- a class is used first
@@ -146,7 +143,7 @@ module _ (p : Program) (ty : IsTyped p) {w : World} (s : State) (h : Local p w s
   used-typed c {t = t} i f = either (is_trivial p c) refl
     where
       full : (b : Bool) → is_trivial p c ≡ false → Step p w (bind (cond b (done (refused stack_overflow_error)) (write (place.Init c) Running (done (begun (with_entry (class_entry c) s.entries))))) (once_driven p s t))
-      full true n = throws-typed p ty stack_overflow_error s (overflow_thrown p ty.linked) (whatever (Some value.Null)) (tested h)
+      full true n = throws-typed p ty stack_overflow_error s (thrown p ty.linked stack_overflow_error refl) (whatever (Some value.Null)) (tested h)
       full false n =
           let v = put w (place.Init c) Running in
           let g = grows_begin p w c in
@@ -160,9 +157,8 @@ module _ (p : Program) (ty : IsTyped p) {w : World} (s : State) (h : Local p w s
 
       looks : (x : InitState) → is_trivial p c ≡ false → Step p w (bind (begun_at c s.entries x) (once_driven p s t))
       looks Idle n = full (is_full s.entries) n
-      looks Running n = f
-      looks Done n = f
-      looks Erroneous n = throws-typed p ty no_class_error s (no_class_thrown p ty.linked) (whatever (Some value.Null)) (tested h)
+      looks Erroneous n = throws-typed p ty no_class_error s (thrown p ty.linked no_class_error refl) (whatever (Some value.Null)) (tested h)
+      looks _ n = f
 
       either : (b : Bool) → is_trivial p c ≡ b → Step p w (bind (cond b (done ready) (read (place.Init c) (begun_at c s.entries))) (once_driven p s t))
       either true q = f
@@ -263,19 +259,14 @@ module _ (p : Program) (ty : IsTyped p) {w : World} (s : State) (h : Local p w s
       by false x y = tt
 
   message-typed : (out : List ℕ) (c : ℕ) (v : Value) → RefersTo p w string_name v → Step p w (judged_message p out c v)
-  message-typed out c (value.Int n) i = absurd i
-  message-typed out c (value.Long n) i = absurd i
   message-typed out c value.Null i = typed_done (judged-typed out c None)
   message-typed out c (value.Lit n) i = typed_spend (typed_done (judged-typed out c (Some (literal_at p n))))
   message-typed out c (value.Obj o) i = typed_read i.0 (λ t e. typed_spend (typed_done (judged-typed out c (Some t))))
+  message-typed out c _ i = absurd i
 
   judge-typed : (x : Option Value) → IfSome x (IsThrowable p w) → Step p w (judge p x s)
   unfolding judge
   judge-typed None i = typed_done tt
-  judge-typed (Some (value.Int n)) i = absurd i
-  judge-typed (Some (value.Long n)) i = absurd i
-  judge-typed (Some value.Null) i = absurd i
-  judge-typed (Some (value.Lit n)) i = absurd i
   judge-typed (Some (value.Obj o)) i = typed_read i.0 (λ z e.
       typed_read (message_at o i (subst (λ (x : Head). IsKind p x.kind) e.0 e.1)) (λ v d. message-typed s.own.output (class_of z.kind) v (message_got p ty.linked w v d)))
     where
@@ -284,6 +275,7 @@ module _ (p : Program) (ty : IsTyped p) {w : World} (s : State) (h : Local p w s
 
       message_at : (o : ℕ) → IsThrowable p w (value.Obj o) → IsKind p (kind_at w o) → IsSpot p w (place.Field o message_field)
       message_at o i j = message_spot p ty.linked w o i.0 j (instance_of (kind_at w o) j i.1)
+  judge-typed _ i = absurd i
 
   tear_down-typed : (o : ℕ) (v : Option Value) → HasObject p w test o → IfSome v (IsThrowable p w) → Step p w (drive_tear_down p o v s)
   unfolding drive_tear_down test

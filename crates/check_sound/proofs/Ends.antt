@@ -3,9 +3,9 @@ use Rattle.std.proofs.Common.{◌≡◌, ℕ, ◌<◌, ◌≤◌, List, length, 
 use Rattle.jvm_model.specs.declared.values.{Value.Value, Kind.Kind, Head.Head, InitState.InitState}
 use Rattle.jvm_model.specs.declared.values.Value.TheVariants as value
 use Rattle.jvm_model.specs.declared.values.Kind.TheVariants as kind
-use Rattle.jvm_model.specs.declared.values.InitState.TheVariants.{Idle, Running, Done, Erroneous}
+use Rattle.jvm_model.specs.declared.values.InitState.TheVariants.{Idle, Running, Erroneous}
 use Rattle.jvm_model.specs.declared.values.Location.TheVariants as place
-use Rattle.jvm_model.specs.declared.state.EntryKind.{EntryKind, TheVariants.Absent, TheVariants.InMethod, TheVariants.InClass}
+use Rattle.jvm_model.specs.declared.state.EntryKind.{EntryKind, TheVariants.Absent}
 use Rattle.jvm_model.specs.declared.{state.Stage.Stage, instr.Instr.Instr, program.Program.Program, program.TestEntry.TestEntry}
 use Rattle.jvm_model.specs.declared.state.Stage.TheVariants.{First, Made, Built, SetUp, Called, Last}
 use Rattle.jvm_model.specs.declared.outcome.Next.TheVariants as step
@@ -22,7 +22,7 @@ use Rattle.type_frames.specs.TypedState.{kind_at, IsTop, IsThrowable, HasObject,
 use Rattle.check_sound.proofs.Tree.{Tree, typed_done, typed_read, typed_mark, typed_make, typed_spend, Over}
 use Rattle.check_sound.proofs.{Grow.Ranged, Grow.throwable_over, Grow.kind_over, Onward.grows_make, Onward.entries_grow, Onward.begun_typed}
 use Rattle.check_sound.proofs.Ready.{TypedEntries, IsThrown, Ends, Row, Ready, again_typed, raised_typed, any_raised}
-use Rattle.check_sound.proofs.{Thrown.overflow_thrown, Thrown.no_class_thrown, Blank.blank_new}
+use Rattle.check_sound.proofs.{Thrown.thrown, Blank.blank_new}
 
 -- the parts of a typed state beside its world
 pub record Local (p : Program) (w : World) (s : State) : Type 0 where
@@ -74,12 +74,9 @@ module _ (p : Program) (w : World) where
   first_decides (Some u) v h t = h
 
   thrown_stage : (t : TestEntry) (s : Stage) (v : Value) → HasStage p w t s → IsThrowable p w v → HasStage p w t (thrown_at s v)
-  thrown_stage t First v h k = k
-  thrown_stage t (Made o) v h k = k
-  thrown_stage t (Built o) v h k = k
-  thrown_stage t (SetUp o) v h k = k
   thrown_stage t (Called o u) v h k = (h.0, first_decides u v h.1 k)
   thrown_stage t (Last u) v h k = first_decides u v h k
+  thrown_stage t _ v h k = k
 
   -- a throwable is raised into the top entry, or comes to the driver
   pub raise_typed : (v : Value) (s : State) → IsThrowable p w v → TypedEntries p w (Some v) s.entries → Tested p w s → Local p w (raise v s)
@@ -92,8 +89,7 @@ module _ (p : Program) (w : World) where
         stage = thrown_stage (test_at p s.test) s.stage v q.stage h;
         entries = record { references = t.references; few = t.few; alone = t.alone; top = subst (λ (k : EntryKind). IsTop p w None k s.entries.top) (sym e) tt; below = t.below; one_each = t.one_each };
       }
-      by InMethod e = record { test = q.test; raised = h; stage = q.stage; entries = t }
-      by (InClass b) e = record { test = q.test; raised = h; stage = q.stage; entries = t }
+      by _ e = record { test = q.test; raised = h; stage = q.stage; entries = t }
 
   pub goes_typed : (s : State) (t : Entries) → TypedEntries p w None t → Tested p w s → Local p w (with_entries s t)
   goes_typed s t h q = record { test = q.test; raised = tt; stage = q.stage; entries = h }
@@ -125,14 +121,13 @@ module _ (p : Program) (ty : IsTyped p) where
     using-typed c {k = k} h f = either (is_trivial p c) refl
       where
         full : (b : Bool) → is_full s ≡ b → is_trivial p c ≡ false → at w (place.Init c) ≡ Idle → Row p w (bind (cond b (done (refused stack_overflow_error)) (write (place.Init c) Running (done (begun (with_entry (class_entry c) s))))) (once s k))
-        full true b n q = typed_done (fault_typed stack_overflow_error s.top.stack (overflow_thrown p ty.linked) r.stack.range)
+        full true b n q = typed_done (fault_typed stack_overflow_error s.top.stack (thrown p ty.linked stack_overflow_error refl) r.stack.range)
         full false b n q = typed_mark h (typed_done (begun_typed ty r c (again_typed p ty r) b n q h))
 
         looks : (x : InitState) → x ≡ at w (place.Init c) → is_trivial p c ≡ false → Row p w (bind (begun_at c s x) (once s k))
         looks Idle q n = full (is_full s) refl n (sym q)
-        looks Running q n = f
-        looks Done q n = f
-        looks Erroneous q n = typed_done (fault_typed no_class_error s.top.stack (no_class_thrown p ty.linked) r.stack.range)
+        looks Erroneous q n = typed_done (fault_typed no_class_error s.top.stack (thrown p ty.linked no_class_error refl) r.stack.range)
+        looks _ q n = f
 
         either : (b : Bool) → is_trivial p c ≡ b → Row p w (bind (cond b (done ready) (read (place.Init c) (begun_at c s))) (once s k))
         either true q = f

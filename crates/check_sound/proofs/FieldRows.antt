@@ -1,8 +1,8 @@
 -- The rows of getfield and putfield. An instance of the class that is named has the field, and no constant is one.
-use Rattle.std.proofs.Common.{◌≡◌, ◌≢◌, ◌⊎◌, ℕ, zero, suc, ◌<◌, ◌≤◌, List, [], ◌∷◌, length, filter, get_or, Bool, true, false, not, ◌&&◌, ◌||◌, cond, nat_eq, Option, Some, None, refl, sym, ◌∙◌, ap, subst, arith, inl, inr}
+use Rattle.std.proofs.Common.{◌≡◌, ◌≢◌, ◌⊎◌, ℕ, zero, suc, ◌<◌, List, [], ◌∷◌, length, filter, Bool, true, false, not, ◌&&◌, ◌||◌, cond, nat_eq, Option, Some, None, refl, sym, ◌∙◌, ap, subst, arith, inl, inr}
 use Rattle.std.specs.Prelude.{flat_map}
-use Rattle.std.proofs.lemmas.Bool.{cases_lt, and_parts, or_cases, or_left, or_right, eqb-true}
-use Rattle.std.proofs.lemmas.List.Folds.{list_any-append}
+use Rattle.std.proofs.lemmas.Bool.{cases_lt, and_parts, or_cases, or_right, eqb-true}
+use Rattle.std.proofs.lemmas.{List.get_or_past, List.Folds.list_any-append, Map.Views.any-filter_same}
 use Rattle.jvm_model.specs.declared.{values.Value.Value, values.Kind.Kind, program.Program.Program, program.ClassRec.ClassRec, outcome.Next.TheVariants.Fault}
 use Rattle.jvm_model.specs.declared.values.Value.TheVariants as value
 use Rattle.jvm_model.specs.declared.values.Kind.TheVariants as kind
@@ -10,10 +10,10 @@ use Rattle.jvm_model.specs.declared.values.Location.TheVariants as place
 use Rattle.jvm_model.specs.declared.instr.Instr.TheVariants as form
 use Rattle.jvm_model.specs.{World.World, World.size, Entries.Entries, Entries.with_stack, Library.builtin_defs, Library.builtin_classes, RowsFields.row_fields}
 use Rattle.jvm_model.specs.Builtin.{object_class, string_class, stream_class, builtin_count, null_pointer_exception}
-use Rattle.jvm_model.specs.Classes.{no_class, class_at, field_at, member, is_static, is_below, upwards, class_bound, plain_fields, layout_in, layout}
+use Rattle.jvm_model.specs.Classes.{no_class, class_at, field_at, member, is_static, is_below, upwards, class_bound, layout}
 use Rattle.jvm_model.specs.{Lookup.is_field, Lookup.field_path_in, Lookup.field_path, Lookup.find_field, Narrow.narrowed, Access.Access, Access.write}
 use Rattle.jvm_model.specs.Rows.{Answer, constant_kind, on_object, goes_on, popping, answer}
-use Rattle.check_sound.proofs.{Arguments.Argument, Ends.fault_typed, Thrown.builtin_is, Thrown.null_pointer_thrown, CallEffects.push}
+use Rattle.check_sound.proofs.{Arguments.Argument, Ends.fault_typed, Thrown.builtin_is, Thrown.thrown, CallEffects.push, LibraryTypes.laid}
 use Rattle.jvm_model.specs.Linked.{Linked, IsClass, count, IsField, IsKind, IsPlainField, IsFoundField, is_interface_at}
 use Rattle.jvm_model.proofs.{Interfaces.member-flat_map, BuiltinRules.builtin_class}
 use Rattle.jvm_model.proofs.Upwards.{superclass_is, below_same, below_trans, upwards_step}
@@ -120,11 +120,6 @@ module _ (p : Program) (lk : Linked p) where
         ]
       ])
 
-      past : (cs : List ClassRec) (d : ℕ) → length cs ≤ d → member f (get_or cs d no_class).fields ≡ false
-      past [] d g = refl
-      past (x ∷ cs) zero g = absurd (omega arith)
-      past (x ∷ cs) (suc d) g = past cs d (omega arith)
-
       by : (d : ℕ) → member d (field_path_in p class_bound named) ≡ true → member f (class_at p d).fields ≡ true → Owned named f
       by d m l = elim (cases_lt d (length p.classes)) [
         | inl g ↦ (
@@ -136,36 +131,17 @@ module _ (p : Program) (lk : Linked p) where
               above = subst (λ (x : ℕ). is_below p named x ≡ true) (sym own) b;
               narrow = wide d b i (empty d l) (takes_every p named) refl;
             })
-        | inr g ↦ absurd (let z : true ≡ false = sym l ∙ past p.classes d g in cc)
+        | inr g ↦ absurd (let z : true ≡ false = sym l ∙ ap (λ (x : ClassRec). member f x.fields) (get_or_past p.classes d no_class g) in cc)
       ]
 
   -- ---- the field of an instance
 
-  kept_by : (x : ℕ) (f : ℕ) (xs : List ℕ) (b : Bool) → not (is_static (field_at p x).flags) ≡ b → (member f xs ≡ true → member f (filter (λ g. not (is_static (field_at p g).flags)) xs) ≡ true) → is_static (field_at p f).flags ≡ false → member f (x ∷ xs) ≡ true → member f (cond b (x ∷ filter (λ g. not (is_static (field_at p g).flags)) xs) (filter (λ g. not (is_static (field_at p g).flags)) xs)) ≡ true
-  kept_by x f xs true q ih n m = elim (or_cases (nat_eq f x) (member f xs) m) [
-    | inl e ↦ or_left (nat_eq f x) _ e
-    | inr e ↦ or_right (nat_eq f x) _ (ih e)
-  ]
-  kept_by x f xs false q ih n m = elim (or_cases (nat_eq f x) (member f xs) m) [
-    | inl e ↦ absurd (let z : not (is_static (field_at p f).flags) ≡ false = subst (λ (y : ℕ). not (is_static (field_at p y).flags) ≡ false) (sym (eqb-true f x e)) q in
-        let y : not false ≡ false = subst (λ (b : Bool). not b ≡ false) n z in cc)
-    | inr e ↦ ih e
-  ]
-
   kept : (f : ℕ) (xs : List ℕ) → is_static (field_at p f).flags ≡ false → member f xs ≡ true → member f (filter (λ g. not (is_static (field_at p g).flags)) xs) ≡ true
-  kept f [] n m = absurd cc
-  kept f (x ∷ xs) n m = kept_by x f xs (not (is_static (field_at p x).flags)) refl (kept f xs n) n m
-
-  laid : (f d : ℕ) (cs : List ℕ) → member d cs ≡ true → member f (plain_fields p d) ≡ true → member f (layout_in p cs) ≡ true
-  laid f d [] m h = absurd cc
-  laid f d (c ∷ cs) m h = list_any-append (nat_eq f) (layout_in p cs) (plain_fields p c) ∙ elim (or_cases (nat_eq d c) (member d cs) m) [
-    | inl e ↦ or_right (member f (layout_in p cs)) (member f (plain_fields p c)) (subst (λ (x : ℕ). member f (plain_fields p x) ≡ true) (eqb-true d c e) h)
-    | inr e ↦ or_left (member f (layout_in p cs)) (member f (plain_fields p c)) (laid f d cs e h)
-  ]
+  kept f xs n m = any-filter_same (nat_eq f) (λ g. not (is_static (field_at p g).flags)) true (λ k e. ap not (subst (λ (y : ℕ). is_static (field_at p y).flags ≡ false) (eqb-true f k e) n)) xs ∙ m
 
   pub in_layout : (k f : ℕ) → is_static (field_at p f).flags ≡ false → member f (class_at p (field_at p f).class).fields ≡ true → is_below p k (field_at p f).class ≡ true → member f (layout p k) ≡ true
   unfolding layout is_below
-  in_layout k f n m b = laid f (field_at p f).class (upwards p k) b (kept f (class_at p (field_at p f).class).fields n m)
+  in_layout k f n m b = laid p lk f (field_at p f).class (upwards p k) b (kept f (class_at p (field_at p f).class).fields n m)
 
   counted_member : (f : ℕ) (xs : List ℕ) → count f xs ≡ 1 → member f xs ≡ true
   counted_member f [] e = absurd (let z : 0 ≡ 1 = e in omega arith)
@@ -225,10 +201,7 @@ module _ (p : Program) (ty : IsTyped p) {w : World} where
       by : (k : Kind) → kind_at w o ≡ k → is_class_with (λ d. is_below p d e.class) k ≡ true → IsSpot p w (place.Field o f)
       by (kind.Class d) z y = (d, l, z, in_layout p ty.linked d f n.0 (own_listed p ty.linked f h) (subst (λ (a : ℕ). is_below p d a ≡ true) (sym c) y))
       by (kind.Array d b) z y = absurd cc
-  started_in f e t value.Null g h n c q r = absurd q
-  started_in f e t (value.Int i) g h n c q r = absurd q
-  started_in f e t (value.Long i) g h n c q r = absurd q
-  started_in f e t (value.Lit i) g h n c q r = absurd q
+  started_in f e t _ g h n c q r = absurd q
 
 module _ (p : Program) (ty : IsTyped p) {w : World} {s : Entries} where
   pub get_field : (c f : ℕ) → Ready p w s (form.GetField c f) → Row p w (row_fields p (form.GetField c f) s)
@@ -240,7 +213,7 @@ module _ (p : Program) (ty : IsTyped p) {w : World} {s : Entries} where
       let e = form_found p ty r in
       let d = (field_at p f).descriptor in
       popping-fits p (Ends p) w lk (Object (name_of p c)) tt (operands r) (λ v vs us h sv o.
-      on_object-typed p (Ends p) w (with_stack s vs) (name_of p c) v h.type (no_constant p lk c f n.0 n.1 k e) (fault_typed p ty r null_pointer_exception vs (null_pointer_thrown p lk) (rest_of o).range) (λ x l i.
+      on_object-typed p (Ends p) w (with_stack s vs) (name_of p c) v h.type (no_constant p lk c f n.0 n.1 k e) (fault_typed p ty r null_pointer_exception vs (thrown p lk null_pointer_exception refl) (rest_of o).range) (λ x l i.
       typed_known x l (λ j. typed_read (spot p lk c f n.0 n.1 k e w x l j i) (λ u q.
       on p ty r refl r.locals (push p w (here r) (types_of d) (rest r) (u ∷ []) vs (declared_result p w d u q) (rest_of o))))))
 
@@ -275,7 +248,7 @@ module _ (p : Program) (ty : IsTyped p) {w : World} {s : Entries} where
           → Operands p w (here r) (cond b (Fits UninitThis) (Fits (object_of p c)) ∷ []) us (rest r) ws
           → Row p w (popping ws (λ x left. on_object (with_stack s left) x (λ o. write (place.Field o f) (narrowed (field_at p f).descriptor v) (goes_on p s left))))
       by v ws us a false q o = popping-fits p (Ends p) w ty.linked (Object (name_of p c)) tt o (λ x xs ts h sv m.
-          stored_in c f r (with_stack s xs) x (fault_typed p ty r null_pointer_exception xs (null_pointer_thrown p ty.linked) (rest_of m).range) h.type (writes v xs a (on p ty r refl r.locals (rest_of m))))
+          stored_in c f r (with_stack s xs) x (fault_typed p ty r null_pointer_exception xs (thrown p ty.linked null_pointer_exception refl) (rest_of m).range) h.type (writes v xs a (on p ty r refl r.locals (rest_of m))))
       by v ws us a true q o =
           let z = eqb-true (field_at p f).class (here r).class (and_parts (nat_eq c (here r).class) _ (and_parts (same (place_of r.types (length (needs_of (field_at p f).descriptor))) UninitThis) _ q).1).1 in
           popping-fits p (Ends p) w ty.linked UninitThis tt o (λ x xs ts h sv m.

@@ -1,5 +1,5 @@
 -- What has a type keeps it where there are more objects.
-use Rattle.std.proofs.Common.{◌≡◌, ℕ, ◌<◌, List, [], ◌∷◌, true, refl, sym, ap, subst, arith}
+use Rattle.std.proofs.Common.{◌≡◌, ℕ, ◌<◌, List, [], ◌∷◌, true, refl, sym, ◌∙◌, ap, subst, arith}
 use Rattle.jvm_model.specs.declared.{values.Value.Value, values.Kind.Kind, values.Head.Head, program.Program.Program}
 use Rattle.jvm_model.specs.declared.values.Value.TheVariants as value
 use Rattle.jvm_model.specs.{World.World, World.size, Builtin.throwable_class, Classes.is_below, Kinds.class_of}
@@ -15,6 +15,9 @@ Ranged p w (v ∷ vs) = IsInRange p w v × Ranged p w vs
 
 pub over_itself : (w : World) → Over w w
 over_itself w = record { sizes = omega arith; heads = λ o h. refl }
+
+pub over_then : (u v w : World) → Over u v → Over v w → Over u w
+over_then u v w a b = record { sizes = (let x = a.sizes in let y = b.sizes in omega arith); heads = λ o h. b.heads o (let x = a.sizes in omega arith) ∙ a.heads o h }
 
 pub alike_over : (u w : World) → Alike u w → Over u w
 alike_over u w a = record { sizes = (let e = a.sizes in omega arith); heads = λ o h. sym (a.heads o) }
@@ -33,15 +36,12 @@ module _ (p : Program) (u w : World) (g : Over u w) where
   refers_over a value.Null h = tt
   refers_over a (value.Lit n) h = h
   refers_over a (value.Obj o) h = (within o h.0, subst (λ (k : Kind). IsInstance p k a) (kind_over o h.0) h.1)
-  refers_over a (value.Int n) h = absurd h
-  refers_over a (value.Long n) h = absurd h
+  refers_over a _ h = absurd h
 
   pub range_over : (v : Value) → IsInRange p u v → IsInRange p w v
   range_over (value.Obj o) h = within o h
   range_over (value.Lit n) h = h
-  range_over value.Null h = tt
-  range_over (value.Int n) h = tt
-  range_over (value.Long n) h = tt
+  range_over _ h = tt
 
   pub ranged_over : (vs : List Value) → Ranged p u vs → Ranged p w vs
   ranged_over [] h = tt
@@ -60,23 +60,14 @@ module _ (p : Program) (u w : World) (g : Over u w) where
   pub types_over : (e : Environment) (ts : List VType) (vs : List Value) → HaveTypes p u e ts vs → HaveTypes p w e ts vs
   types_over e [] [] h = tt
   types_over e (t ∷ ts) (v ∷ vs) h = (type_over e t v h.0, types_over e ts vs h.1)
-  types_over e [] (v ∷ vs) h = absurd h
-  types_over e (t ∷ ts) [] h = absurd h
+  types_over e _ _ h = absurd h
 
   pub stack_over : (e : Environment) (ts : List VType) (vs : List Value) → HaveStackTypes p u e ts vs → HaveStackTypes p w e ts vs
   stack_over e ts [] h = h
-  stack_over e (t ∷ ts) (value.Int n ∷ vs) h = (type_over e t (value.Int n) h.0, stack_over e ts vs h.1)
-  stack_over e (t ∷ ts) (value.Null ∷ vs) h = (type_over e t value.Null h.0, stack_over e ts vs h.1)
-  stack_over e (t ∷ ts) (value.Lit n ∷ vs) h = (type_over e t (value.Lit n) h.0, stack_over e ts vs h.1)
-  stack_over e (t ∷ ts) (value.Obj o ∷ vs) h = (type_over e t (value.Obj o) h.0, stack_over e ts vs h.1)
   stack_over e (Top ∷ t ∷ ts) (value.Long n ∷ vs) h = (type_over e t (value.Long n) h.0, stack_over e ts vs h.1)
-  stack_over e (Top ∷ []) (value.Long n ∷ vs) h = absurd h
-  stack_over e (t ∷ ts) (value.Long n ∷ vs) h = absurd h
-  stack_over e [] (value.Long n ∷ vs) h = absurd h
-  stack_over e [] (value.Int n ∷ vs) h = absurd h
-  stack_over e [] (value.Null ∷ vs) h = absurd h
-  stack_over e [] (value.Lit n ∷ vs) h = absurd h
-  stack_over e [] (value.Obj o ∷ vs) h = absurd h
+  stack_over e _ (value.Long n ∷ vs) h = absurd h
+  stack_over e (t ∷ ts) (v ∷ vs) h = (type_over e t v h.0, stack_over e ts vs h.1)
+  stack_over e [] (v ∷ vs) h = absurd h
 
   reference_over : (ts : List VType) (v : Value) → IsReferenceOf p u ts v → IsReferenceOf p w ts v
   reference_over (Object a ∷ []) v h = refers_over a v h
@@ -85,9 +76,7 @@ module _ (p : Program) (u w : World) (g : Over u w) where
   pub declared_over : (d : List ℕ) (v : Value) → IsDeclared p u d v → IsDeclared p w d v
   declared_over d (value.Int n) h = h
   declared_over d (value.Long n) h = h
-  declared_over d value.Null h = reference_over (types_of d) value.Null h
-  declared_over d (value.Lit n) h = reference_over (types_of d) (value.Lit n) h
-  declared_over d (value.Obj o) h = reference_over (types_of d) (value.Obj o) h
+  declared_over d v h = reference_over (types_of d) v h
 
   pub throwable_over : (v : Value) → IsThrowable p u v → IsThrowable p w v
   throwable_over (value.Obj o) h = (within o h.0, subst (λ (k : Kind). is_below p (class_of k) throwable_class ≡ true) (kind_over o h.0) h.1)

@@ -73,8 +73,7 @@ module _ (p : Program) (lk : Linked p) (w : World) (e : Environment) where
   refers_fits a b value.Null f h = tt
   refers_fits a b (value.Lit n) f h = (h.0, instance_fits (constant_kind n) a b f h.1)
   refers_fits a b (value.Obj o) f h = (h.0, instance_fits (kind_at w o) a b f h.1)
-  refers_fits a b (value.Int n) f h = absurd h
-  refers_fits a b (value.Long n) f h = absurd h
+  refers_fits a b _ f h = absurd h
 
   null_refers : (b : List ℕ) (v : Value) → HasType p w e Null v → RefersTo p w b v
   null_refers b value.Null h = tt
@@ -98,37 +97,25 @@ module _ (p : Program) (lk : Linked p) (w : World) (e : Environment) where
   types_fit [] [] vs f h = h
   types_fit (t ∷ ts) (u ∷ us) [] f h = absurd h
   types_fit (t ∷ ts) (u ∷ us) (v ∷ vs) f h = let q = and_parts _ _ f in (type_fits t u v q.0 h.0, types_fit ts us vs q.1 h.1)
-  types_fit [] (u ∷ us) vs f h = absurd (cc)
-  types_fit (t ∷ ts) [] vs f h = absurd (cc)
+  types_fit _ _ vs f h = absurd (cc)
 
   pub locals_fit : (ts us : List VType) (vs : List Value) → fit_all p ts us ≡ true → Locals p w e ts vs → Locals p w e us vs
   locals_fit ts us vs f h = record { types = types_fit ts us vs f h.types; range = h.range }
 
   nil_fits : (ts us : List VType) → fit_all p ts us ≡ true → ts ≡ [] → us ≡ []
   nil_fits [] [] f h = refl
-  nil_fits [] (u ∷ us) f h = absurd (cc)
-  nil_fits (t ∷ ts) us f h = absurd (cc)
+  nil_fits _ _ f h = absurd (cc)
 
   two_fit : (t : VType) (ts us : List VType) (n : ℤ) (vs : List Value) → fit_all p (Top ∷ t ∷ ts) us ≡ true → HasType p w e t (value.Long n) → ((us : List VType) → fit_all p ts us ≡ true → HaveStackTypes p w e us vs) → HaveStackTypes p w e us (value.Long n ∷ vs)
   two_fit t ts (Top ∷ u ∷ us) n vs f h k = let q = and_parts _ _ f in (type_fits t u (value.Long n) q.0 h, k us q.1)
-  two_fit t ts (Top ∷ []) n vs f h k = absurd (cc)
-  two_fit t ts [] n vs f h k = absurd (cc)
-  two_fit t ts (_ ∷ us) n vs f h k = absurd (cc)
+  two_fit t ts _ n vs f h k = absurd (cc)
 
   stack_fit : (ts us : List VType) (vs : List Value) → fit_all p ts us ≡ true → HaveStackTypes p w e ts vs → HaveStackTypes p w e us vs
   stack_fit ts us [] f h = nil_fits ts us f h
-  stack_fit (t ∷ ts) (u ∷ us) (value.Int n ∷ vs) f h = let q = and_parts _ _ f in (type_fits t u (value.Int n) q.0 h.0, stack_fit ts us vs q.1 h.1)
-  stack_fit (t ∷ ts) (u ∷ us) (value.Null ∷ vs) f h = let q = and_parts _ _ f in (type_fits t u value.Null q.0 h.0, stack_fit ts us vs q.1 h.1)
-  stack_fit (t ∷ ts) (u ∷ us) (value.Lit n ∷ vs) f h = let q = and_parts _ _ f in (type_fits t u (value.Lit n) q.0 h.0, stack_fit ts us vs q.1 h.1)
-  stack_fit (t ∷ ts) (u ∷ us) (value.Obj n ∷ vs) f h = let q = and_parts _ _ f in (type_fits t u (value.Obj n) q.0 h.0, stack_fit ts us vs q.1 h.1)
   stack_fit (Top ∷ t ∷ ts) us (value.Long n ∷ vs) f h = two_fit t ts us n vs f h.0 (λ xs g. stack_fit ts xs vs g h.1)
-  stack_fit (Top ∷ []) us (value.Long n ∷ vs) f h = absurd h
-  stack_fit (t ∷ ts) us (value.Long n ∷ vs) f h = absurd h
-  stack_fit [] us (value.Long n ∷ vs) f h = absurd h
-  stack_fit [] us (value.Int n ∷ vs) f h = absurd h
-  stack_fit [] us (value.Null ∷ vs) f h = absurd h
-  stack_fit [] us (value.Lit n ∷ vs) f h = absurd h
-  stack_fit [] us (value.Obj n ∷ vs) f h = absurd h
+  stack_fit _ us (value.Long n ∷ vs) f h = absurd h
+  stack_fit (t ∷ ts) (u ∷ us) (v ∷ vs) f h = let q = and_parts _ _ f in (type_fits t u v q.0 h.0, stack_fit ts us vs q.1 h.1)
+  stack_fit [] us (v ∷ vs) f h = absurd h
   stack_fit (t ∷ ts) [] (v ∷ vs) f h = absurd (cc)
 
   pub held_fits : (ts us : List VType) (vs : List Value) → fit_all p ts us ≡ true → Held p w e ts vs → Held p w e us vs
@@ -157,8 +144,7 @@ module _ (p : Program) (w : World) (e : Environment) (a b : VType) (k : (v : Val
   turned_types : (ts : List VType) (vs : List Value) → HaveTypes p w e ts vs → HaveTypes p w e (map (turned_one a b) ts) vs
   turned_types [] [] h = tt
   turned_types (t ∷ ts) (v ∷ vs) h = (turned_type t v h.0, turned_types ts vs h.1)
-  turned_types [] (v ∷ vs) h = absurd h
-  turned_types (t ∷ ts) [] h = absurd h
+  turned_types _ _ h = absurd h
 
   pub locals_turned : {ts : List VType} {vs : List Value} → Locals p w e ts vs → Locals p w e (map (turned_one a b) ts) vs
   locals_turned {ts = ts} {vs = vs} h = record { types = turned_types ts vs h.types; range = h.range }
@@ -166,18 +152,10 @@ module _ (p : Program) (w : World) (e : Environment) (a b : VType) (k : (v : Val
   turned_stack : same Top a ≡ false → (ts : List VType) (vs : List Value) → HaveStackTypes p w e ts vs → HaveStackTypes p w e (map (turned_one a b) ts) vs
   turned_stack n [] [] h = refl
   turned_stack n (t ∷ ts) [] h = absurd (cc)
-  turned_stack n (t ∷ ts) (value.Int i ∷ vs) h = (turned_type t (value.Int i) h.0, turned_stack n ts vs h.1)
-  turned_stack n (t ∷ ts) (value.Null ∷ vs) h = (turned_type t value.Null h.0, turned_stack n ts vs h.1)
-  turned_stack n (t ∷ ts) (value.Lit i ∷ vs) h = (turned_type t (value.Lit i) h.0, turned_stack n ts vs h.1)
-  turned_stack n (t ∷ ts) (value.Obj i ∷ vs) h = (turned_type t (value.Obj i) h.0, turned_stack n ts vs h.1)
   turned_stack n (Top ∷ u ∷ ts) (value.Long i ∷ vs) h = subst (λ (x : Bool). HasOnTop p w e (value.Long i) (cond x b Top ∷ map (turned_one a b) (u ∷ ts)) (λ us. HaveStackTypes p w e us vs)) (sym n) (turned_type u (value.Long i) h.0, turned_stack n ts vs h.1)
-  turned_stack n (Top ∷ []) (value.Long i ∷ vs) h = absurd h
-  turned_stack n (t ∷ ts) (value.Long i ∷ vs) h = absurd h
-  turned_stack n [] (value.Long i ∷ vs) h = absurd h
-  turned_stack n [] (value.Int i ∷ vs) h = absurd h
-  turned_stack n [] (value.Null ∷ vs) h = absurd h
-  turned_stack n [] (value.Lit i ∷ vs) h = absurd h
-  turned_stack n [] (value.Obj i ∷ vs) h = absurd h
+  turned_stack n _ (value.Long i ∷ vs) h = absurd h
+  turned_stack n (t ∷ ts) (v ∷ vs) h = (turned_type t v h.0, turned_stack n ts vs h.1)
+  turned_stack n [] (v ∷ vs) h = absurd h
 
   pub held_turned : {ts : List VType} {vs : List Value} → same Top a ≡ false → Held p w e ts vs → Held p w e (map (turned_one a b) ts) vs
   held_turned {ts = ts} {vs = vs} n h = record { types = turned_stack n ts vs h.types; range = h.range }

@@ -11,7 +11,8 @@ use Rattle.jvm_model.specs.declared.values.Location.TheVariants as place
 use Rattle.jvm_model.specs.declared.state.{EntryKind.EntryKind, EntryKind.TheVariants.Absent, EntryKind.TheVariants.InMethod, EntryKind.TheVariants.InClass}
 use Rattle.jvm_model.specs.declared.program.{Program.Program, ClassRec.ClassRec, Body.Body}
 use Rattle.jvm_model.specs.World.{World, size, at, put, make_object}
-use Rattle.jvm_model.specs.{Builtin.throwable_class, Builtin.initializer_error, Builtin.error_class, Linked.Linked, Linked.IsClass, Linked.IsInitialiser}
+use Rattle.jvm_model.specs.Builtin.{throwable_class, initializer_error, no_class_error, stack_overflow_error, error_class}
+use Rattle.jvm_model.specs.Linked.{Linked, IsClass, IsInitialiser}
 use Rattle.jvm_model.specs.Classes.{no_class, class_at, method_at, is_interface, is_below, is_trivial, declares_start, default_interfaces, own_interfaces, first_mentions, is_default_method, lineage_in, class_bound, upwards, member, blank, instance_head}
 use Rattle.jvm_model.specs.{Descriptors.parameters, Kinds.class_of, Rows.answer}
 use Rattle.jvm_model.specs.Entries.{Entry, Entries, all_entries, is_full, entry_limit, popped_entry, entries_of, class_entry, with_entry, frame_of}
@@ -24,7 +25,7 @@ use Rattle.check_sound.proofs.Tree.{Tree, typed_done, typed_read, typed_mark, ty
 use Rattle.check_sound.proofs.{Grow.throwable_over, WorldKept.mark_over, Operands.choose-typed, Operands.head-typed, Blank.blank_new, Ends.new_kind}
 use Rattle.check_sound.proofs.Ready.{TypedEntries, stub, Rest, IsEntry, Opened, opened, closed, below_same, Ends, Quiet, Row}
 use Rattle.check_sound.proofs.Onward.{StayRunning, rest_kept, grows_begin, grows_make, entries_grow, running_in, differs, not_full}
-use Rattle.check_sound.proofs.Thrown.{overflow_thrown, no_class_thrown, initializer_thrown}
+use Rattle.check_sound.proofs.Thrown.{thrown}
 use Rattle.check_sound.proofs.{RaiseRows.beneath, RaiseRows.none_typed, RaiseRows.raised_below, Arguments.EntersWith, Arguments.entered_frame}
 
 -- ---- a class that isn't trivial is one
@@ -85,10 +86,9 @@ entered_rest : {p : Program} {w : World} {n : ℕ} (fs : List Entry) → Rest p 
 entered_rest {p = p} {w = w} {n = n} fs r = record { each = by fs r.each; range = r.range; few = r.few; apart = r.apart }
   where
     one : (f : Entry) (i : EntryKind) → IsBelow p w f i (stub (InClass false) n) (InClass false) → IsBelow p w f i (stub (InClass true) n) (InClass true)
-    one f InMethod h = h
-    one f (InClass false) h = h
     one f (InClass true) h = absurd h.1
     one f Absent h = absurd h
+    one f _ h = h
 
     by : (fs : List Entry) → AllBelow p w (stub (InClass false) n) fs → AllBelow p w (stub (InClass true) n) fs
     by [] h = tt
@@ -145,8 +145,7 @@ module _ (p : Program) (ty : IsTyped p) {w : World} {s : Entries} (b : Bool) (k 
     where
       by : (x : EntryKind) → Ends p (put w (place.Init s.top.number) Done) (answer (left_at x) (popped_entry s))
       by Absent = resumed s.below (written_rest Done s.below rest_below)
-      by InMethod = resumed s.below (written_rest Done s.below rest_below)
-      by (InClass y) = resumed s.below (written_rest Done s.below rest_below)
+      by _ = resumed s.below (written_rest Done s.below rest_below)
 
 module _ (p : Program) (ty : IsTyped p) {w : World} {s : Entries} (k : s.top.kind ≡ InClass false) (t : TypedEntries p w None s) where
   few_below : is_full s ≡ false → length (s.top ∷ s.below) < entry_limit
@@ -208,7 +207,7 @@ module _ (p : Program) (ty : IsTyped p) {w : World} {s : Entries} (k : s.top.kin
     where
       by : (b : Option Body) → (method_at p m).body ≡ b → IsSome b → IsInitialiser p s.top.number m → Row p w (starts_body b m n s)
       by None hb c i = absurd (let z : false ≡ true = c in cc)
-      by (Some b) hb c i = choose-typed p (Ends p) w (is_full s) (λ e. typed_spend (typed_done (overflow_thrown p ty.linked, faulted p ty false k t value.Null)))
+      by (Some b) hb c i = choose-typed p (Ends p) w (is_full s) (λ e. typed_spend (typed_done (thrown p ty.linked stack_overflow_error refl, faulted p ty false k t value.Null)))
           (λ e. typed_spend (typed_done (clinit_typed m b q i hb e)))
 
   -- the parts one by one
@@ -217,11 +216,10 @@ module _ (p : Program) (ty : IsTyped p) {w : World} {s : Entries} (k : s.top.kin
   looks-typed (x ∷ xs) n a f = typed_read (nontrivial_class p ty.linked x.class a.0) (λ st e. by st e (looks-typed xs (n + x.price) a.1 (λ c m. f c (or_right (nat_eq c x.class) (member c (map (λ x. x.class) xs)) m))))
     where
       by : (st : InitState) → st ≡ at w (place.Init x.class) → Row p w (looks p xs (n + x.price) s) → Row p w (looked_at x.class (n + x.price) s (looks p xs (n + x.price) s) st)
-      by Idle e r = choose-typed p (Ends p) w (is_full s) (λ q. typed_spend (typed_done (overflow_thrown p ty.linked, faulted p ty false k t value.Null)))
+      by Idle e r = choose-typed p (Ends p) w (is_full s) (λ q. typed_spend (typed_done (thrown p ty.linked stack_overflow_error refl, faulted p ty false k t value.Null)))
           (λ q. typed_spend (typed_mark (nontrivial_class p ty.linked x.class a.0) (typed_done (part_begun x.class (f x.class (or_left (nat_eq x.class x.class) (member x.class (map (λ x. x.class) xs)) (eq-eqb x.class x.class refl))) a.0 q (sym e)))))
-      by Running e r = r
-      by Done e r = r
-      by Erroneous e r = typed_spend (typed_done (no_class_thrown p ty.linked, faulted p ty false k t value.Null))
+      by Erroneous e r = typed_spend (typed_done (thrown p ty.linked no_class_error refl, faulted p ty false k t value.Null))
+      by _ e r = r
 
 module _ (p : Program) (ty : IsTyped p) {w : World} {s : Entries} where
   pub finish-typed : (b : Bool) → s.top.kind ≡ InClass b → TypedEntries p w None s → Row p w (row_finish p s)
@@ -246,7 +244,7 @@ module _ (p : Program) (ty : IsTyped p) {w : World} {s : Entries} where
       let x = blank p (instance_head initializer_error) in
       let v = make_object u x in
       let o = value.Obj (size u) in
-      let i = initializer_thrown p ty.linked in
+      let i = thrown p ty.linked initializer_error refl in
       let e = raised_below o s.below (written_rest Erroneous s.below (rest_below p ty b k t)) in
       typed_spend (typed_mark (own_class p ty b k t) (typed_make (blank_new p ty u (instance_head initializer_error) i.0) (typed_done (
         ((let z = size_make u x in omega arith), subst (λ (y : Kind). is_below p (class_of y) throwable_class ≡ true) (sym (new_kind p u initializer_error x refl)) i.1),
@@ -258,7 +256,4 @@ module _ (p : Program) (ty : IsTyped p) {w : World} {s : Entries} where
   fail-typed b (value.Obj o) k h t =
       let q = quiet b (value.Obj o) k t in
       head-typed p (Quiet p) w o h.0 (λ i. choose-typed p (Quiet p) w (was_entered s.top.kind && not (is_below p (class_of (kind_at w o)) error_class)) (λ e. fails_anew-typed b k q) (λ e. fails-typed b (value.Obj o) k q h))
-  fail-typed b (value.Int n) k h t = absurd h
-  fail-typed b (value.Long n) k h t = absurd h
-  fail-typed b value.Null k h t = absurd h
-  fail-typed b (value.Lit n) k h t = absurd h
+  fail-typed b _ k h t = absurd h

@@ -1,7 +1,7 @@
 -- What an instance of a class is, by name and by number.
-use Rattle.std.proofs.Common.{◌≡◌, ℕ, zero, suc, ◌<◌, ◌≤◌, List, [], ◌∷◌, length, get_or, drop, Bool, true, false, not, ◌&&◌, ◌||◌, nat_eq, Option, Some, None, refl, sym, ◌∙◌, ap, subst, arith, inl, inr}
+use Rattle.std.proofs.Common.{◌≡◌, ℕ, zero, suc, ◌<◌, List, [], ◌∷◌, length, drop, Bool, true, false, not, ◌&&◌, ◌||◌, nat_eq, Option, Some, None, refl, sym, ◌∙◌, ap, subst, arith, inl, inr}
 use Rattle.std.specs.Str.{bytes_eq}
-use Rattle.std.proofs.lemmas.Bool.{cases_lt, or_cases, or_left, or_right, eqb-true}
+use Rattle.std.proofs.lemmas.{Bool.cases_lt, Bool.or_cases, Bool.or_left, Bool.or_right, Bool.eqb-true, List.get_or_past}
 use Rattle.jvm_model.specs.declared.{values.Kind.Kind, values.Base.Base, program.Program.Program, program.ClassRec.ClassRec}
 use Rattle.jvm_model.specs.declared.values.Kind.TheVariants as kind
 use Rattle.jvm_model.specs.{Builtin.object_class, Linked.Linked, Linked.IsClass, Linked.IsKind, Linked.is_interface_at}
@@ -72,14 +72,9 @@ module _ (p : Program) (lk : Linked p) where
   below_class c d g b = elim (cases_lt c (length p.classes)) [
     | inl l ↦ l
     | inr n ↦ absurd (
-        let q : member d (c ∷ []) ≡ true = sym (ap (member d) (upwards_root p lk c (no_superclass p.classes c n))) ∙ b in
+        let q : member d (c ∷ []) ≡ true = sym (ap (member d) (upwards_root p lk c (ap (λ (x : ClassRec). x.superclass) (get_or_past p.classes c no_class n)))) ∙ b in
         elim (or_cases (nat_eq d c) false q) as (λ x. ⊥) [ inl e ↦ (let z = eqb-true d c e in let h : d < length p.classes = g in omega arith) | inr e ↦ absurd (cc) ])
   ]
-    where
-      no_superclass : (cs : List ClassRec) (c : ℕ) → length cs ≤ c → (get_or cs c no_class).superclass ≡ None
-      no_superclass [] c h = refl
-      no_superclass (x ∷ cs) zero h = absurd (omega arith)
-      no_superclass (x ∷ cs) (suc c) h = no_superclass cs c (omega arith)
 
   -- the superclass is above its class
   pub super_below : (c d : ℕ) → IsClass p c → is_that d (class_at p c).superclass ≡ true → is_below p c d ≡ true

@@ -90,12 +90,7 @@ module _ (p : Program) (lk : Linked p) where
   bases_itself : (b : Base) → base_fits p b b ≡ true
   unfolding class_fits
   bases_itself (base.Class c) = or_left (is_below p c c) (implements p c c) (below_same p c)
-  bases_itself base.Boolean = refl
-  bases_itself base.Byte = refl
-  bases_itself base.Char = refl
-  bases_itself base.Short = refl
-  bases_itself base.Int = refl
-  bases_itself base.Long = refl
+  bases_itself _ = refl
 
   -- an object of a kind is an instance of it
   pub kind_itself : (k : Kind) → IsKind p k → IsInstance p k (kind_name p k)

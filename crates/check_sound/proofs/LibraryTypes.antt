@@ -1,9 +1,9 @@
 -- What the built-in methods take and give, by the records that every program has of them.
-use Rattle.std.proofs.Common.{◌≡◌, ℕ, zero, suc, ◌<◌, ◌≤◌, List, [], ◌∷◌, ◌++◌, length, get_or, reverse, filter, Bool, true, false, not, ◌&&◌, ◌||◌, cond, nat_eq, nat_lt, Option, Some, None, refl, sym, ◌∙◌, ap, subst, arith, inl, inr}
+use Rattle.std.proofs.Common.{◌≡◌, ℕ, ◌<◌, List, [], ◌∷◌, ◌++◌, length, get_or, reverse, filter, Bool, true, false, not, ◌&&◌, ◌||◌, cond, nat_eq, nat_lt, Option, Some, None, refl, sym, ◌∙◌, ap, subst, arith, inl, inr}
 use Rattle.std.specs.Prelude.{flat_map, codes}
 use Rattle.std.specs.List.{list_all}
 use Rattle.std.proofs.lemmas.Bool.{cases_lt, and_parts, or_cases, or_left, or_right, eqb-true, ltb-true}
-use Rattle.std.proofs.lemmas.List.{reverse-append}
+use Rattle.std.proofs.lemmas.List.{reverse-append, get_or_past, Folds.list_any-append}
 use Rattle.jvm_model.specs.declared.{values.Kind.Kind, values.Value.Value, library.Native.Native}
 use Rattle.jvm_model.specs.declared.values.Kind.TheVariants as kind
 use Rattle.jvm_model.specs.declared.values.Value.TheVariants as value
@@ -23,7 +23,7 @@ use Rattle.type_frames.specs.TypedState.{kind_at, IsInstance, RefersTo, IsDeclar
 use Rattle.type_frames.proofs.AssignLaws.{assignable_trans}
 use Rattle.check_sound.proofs.{Tree.IsSpot, Held.same_is, Arrive.counted_at, Arrive.all_at_index, Ready.Takes, Ready.operand_types, Arrive.own_methods}
 use Rattle.check_sound.proofs.Instances.{takes_every, instance_below, instance_itself, below_is}
-use Rattle.check_sound.proofs.Thrown.{under_object, builtin_is, above}
+use Rattle.check_sound.proofs.Thrown.{under_object, builtin_is, is_throwable, thrown}
 
 abbrev pub object_name : List ℕ
 object_name = codes "java/lang/Object"
@@ -134,14 +134,11 @@ is_fixed_string _ = false
 
 -- whether it is static
 abbrev pub is_fixed : NativeGroup → Native → Bool
-is_fixed of_object x = false
 is_fixed of_string x = is_fixed_string x
-is_fixed of_builder x = false
 is_fixed of_system x = true
-is_fixed of_stream x = false
 is_fixed of_files x = true
 is_fixed of_env x = true
-is_fixed of_throwable x = false
+is_fixed _ x = false
 
 abbrev pub receiver_of : Program → Native → List VType
 receiver_of p x = cond (is_fixed (native_group x) x) [] (Object (name_of p (home_of (native_group x))) ∷ [])
@@ -160,26 +157,19 @@ types_same _ _ = false
 types_same_is : (ts us : List VType) → types_same ts us ≡ true → ts ≡ us
 types_same_is [] [] e = refl
 types_same_is (t ∷ ts) (u ∷ us) e = let q = and_parts (same t u) (types_same ts us) e in ap {B = List VType} (λ x. x ∷ ts) (same_is t u q.0) ∙ ap {B = List VType} (λ xs. u ∷ xs) (types_same_is ts us q.1)
-types_same_is [] (u ∷ us) e = absurd (cc)
-types_same_is (t ∷ ts) [] e = absurd (cc)
+types_same_is _ _ e = absurd (cc)
 
 abbrev bool_same : Bool → Bool → Bool
 bool_same true b = b
 bool_same false b = not b
 
 bool_same_is : (a b : Bool) → bool_same a b ≡ true → a ≡ b
-bool_same_is true true e = refl
-bool_same_is false false e = refl
 bool_same_is true false e = absurd (cc)
 bool_same_is false true e = absurd (cc)
-
--- a class that comes to Throwable in at most so many steps upwards
-abbrev is_throwable_in : ℕ → ClassRec → Bool
-is_throwable_in zero x = false
-is_throwable_in (suc k) x = elim x.superclass [ None ↦ false | Some d ↦ nat_lt d 32 && (nat_eq d 7 || is_throwable_in k (get_or builtin_classes d no_class)) ]
+bool_same_is _ _ e = refl
 
 abbrev is_home : ℕ → ℕ → Bool
-is_home c h = nat_eq c h || (nat_eq h 7 && (nat_lt c 32 && is_throwable_in 6 (get_or builtin_classes c no_class)))
+is_home c h = nat_eq c h || (nat_eq h throwable_class && is_throwable c)
 
 abbrev is_as_said : MethodRec → Native → Bool
 is_as_said m x = types_same (reverse (flat_map types_of (parameters m.descriptor))) (arguments_of x) && (types_same (types_of (return_type m.descriptor)) (result_of x)
@@ -194,15 +184,10 @@ unfolding builtin_methods builtin_classes builtin_defs parameters return_type
 all_as_said = refl
 
 module _ (p : Program) (lk : Linked p) where
-  beyond : (ms : List MethodRec) (m : ℕ) → length ms ≤ m → get_or ms m no_method ≡ no_method
-  beyond [] m h = refl
-  beyond (x ∷ ms) zero h = absurd (omega arith)
-  beyond (x ∷ ms) (suc m) h = beyond ms m (omega arith)
-
   -- a built-in method is one of a built-in class, and of the table
   pub native_home : (m : ℕ) (x : Native) → (method_at p m).native ≡ Some x → (m < length p.methods) × ((method_at p m).class < builtin_count)
   native_home m x e = elim (cases_lt m (length p.methods)) [
-    | inr n ↦ absurd (let z : None ≡ Some x = sym (ap (λ (r : MethodRec). r.native) (beyond p.methods m n)) ∙ e in cc)
+    | inr n ↦ absurd (let z : None ≡ Some x = sym (ap (λ (r : MethodRec). r.native) (get_or_past p.methods m no_method n)) ∙ e in cc)
     | inl i ↦ (
       i,
       elim (cases_lt (method_at p m).class builtin_count) [
@@ -219,37 +204,17 @@ module _ (p : Program) (lk : Linked p) where
       let k = counted_at m (class_at p c).methods (lk.listed.methods m h.0) in
       ltb-true m 102 (all_at_index (λ x. nat_lt x 102) (class_at p c).methods k.0 m (class_keeps p lk.builtins (λ c. list_all (λ m. nat_lt m 102) c.methods) own_methods c h.1) k.1)
 
-  chain_below : (k c : ℕ) → c < 32 → is_throwable_in k (get_or builtin_classes c no_class) ≡ true → is_below p c throwable_class ≡ true
-  chain_below zero c h e = absurd (cc)
-  chain_below (suc k) c h e = by (get_or builtin_classes c no_class).superclass refl (λ d i z. chain_below k d i z) e
-    where
-      by : (o : Option ℕ) → (get_or builtin_classes c no_class).superclass ≡ o → ((d : ℕ) → d < 32 → is_throwable_in k (get_or builtin_classes d no_class) ≡ true → is_below p d throwable_class ≡ true) → elim o as (λ x. Bool) [ None ↦ false | Some d ↦ nat_lt d 32 && (nat_eq d 7 || is_throwable_in k (get_or builtin_classes d no_class)) ] ≡ true → is_below p c throwable_class ≡ true
-      by None q f e = absurd (cc)
-      by (Some d) q f e =
-          let a = and_parts (nat_lt d 32) (nat_eq d 7 || is_throwable_in k (get_or builtin_classes d no_class)) e in
-          above p lk c d h q (elim (or_cases (nat_eq d 7) (is_throwable_in k (get_or builtin_classes d no_class)) a.1) [
-            | inl z ↦ subst (λ (y : ℕ). is_below p y 7 ≡ true) (sym (eqb-true d 7 z)) (below_same p 7)
-            | inr z ↦ f d (ltb-true d 32 a.0) z
-          ])
-
   home_below : (c h : ℕ) → is_home c h ≡ true → is_below p c h ≡ true
-  home_below c h e = elim (or_cases (nat_eq c h) (nat_eq h 7 && (nat_lt c 32 && is_throwable_in 6 (get_or builtin_classes c no_class))) e) [
+  home_below c h e = elim (or_cases (nat_eq c h) (nat_eq h throwable_class && is_throwable c) e) [
     | inl q ↦ subst (λ (y : ℕ). is_below p y h ≡ true) (sym (eqb-true c h q)) (below_same p h)
     | inr q ↦
-        let a = and_parts (nat_eq h 7) (nat_lt c 32 && is_throwable_in 6 (get_or builtin_classes c no_class)) q in
-        let b = and_parts (nat_lt c 32) (is_throwable_in 6 (get_or builtin_classes c no_class)) a.1 in
-        subst (λ (y : ℕ). is_below p c y ≡ true) (sym (eqb-true h 7 a.0)) (chain_below 6 c (ltb-true c 32 b.0) b.1)
+        let a = and_parts (nat_eq h throwable_class) (is_throwable c) q in
+        subst (λ (y : ℕ). is_below p c y ≡ true) (sym (eqb-true h throwable_class a.0)) (thrown p lk c a.1).1
   ]
 
   home_is : (g : NativeGroup) → home_of g < 32
   home_is of_object = omega arith
-  home_is of_string = omega arith
-  home_is of_builder = omega arith
-  home_is of_system = omega arith
-  home_is of_stream = omega arith
-  home_is of_files = omega arith
-  home_is of_env = omega arith
-  home_is of_throwable = omega arith
+  home_is _ = omega arith
 
   as_said : (m : ℕ) (x : Native) → (method_at p m).native ≡ Some x → is_as_said (method_at p m) x ≡ true
   as_said m x e = subst (λ (o : Option Native). if_native o (method_at p m) ≡ true) e (method_keeps p lk.builtins (λ m. if_native m.native m) all_as_said m (is_in_table m x e))
@@ -258,8 +223,7 @@ module _ (p : Program) (lk : Linked p) where
   refers_below w a b value.Null f h = tt
   refers_below w a b (value.Lit n) f h = (h.0, assignable_trans p lk (Object (kind_name p (constant_kind n))) (Object a) (Object b) h.1 f)
   refers_below w a b (value.Obj o) f h = (h.0, assignable_trans p lk (Object (kind_name p (kind_at w o))) (Object a) (Object b) h.1 f)
-  refers_below w a b (value.Int n) f h = absurd h
-  refers_below w a b (value.Long n) f h = absurd h
+  refers_below w a b _ f h = absurd h
 
   -- a receiver of a class below is one of the class above
   receiver_fits : (w : World) (ts : List VType) (a b : List ℕ) (vs rest : List Value) → ((v : Value) → RefersTo p w a v → RefersTo p w b v) → Takes p w (ts ++ Object a ∷ []) vs rest → Takes p w (ts ++ Object b ∷ []) vs rest
@@ -367,28 +331,18 @@ module _ (p : Program) (lk : Linked p) where
   own_message = subst (λ (fs : List ℕ). member message_field (filter (λ g. not (is_static (field_at p g).flags)) fs) ≡ true) (sym (ap (λ (r : ClassRec). r.fields) (builtin_class p lk.builtins 7 (omega arith))))
       (subst (λ (f : FieldRec). member message_field (cond (not (is_static f.flags)) (1 ∷ []) []) ≡ true) (sym message_record) refl)
 
-  in_layout : (cs : List ℕ) → member throwable_class cs ≡ true → member message_field (layout_in p cs) ≡ true
-  in_layout [] e = absurd (cc)
-  in_layout (c ∷ cs) e = elim (or_cases (nat_eq throwable_class c) (member throwable_class cs) e) [
-    | inl q ↦ second (layout_in p cs) (plain_fields p c) (subst (λ (y : ℕ). member message_field (plain_fields p y) ≡ true) (eqb-true throwable_class c q) own_message)
-    | inr q ↦ first (layout_in p cs) (plain_fields p c) (in_layout cs q)
+  -- a field of a class is one of the layout of a class below
+  pub laid : (f d : ℕ) (cs : List ℕ) → member d cs ≡ true → member f (plain_fields p d) ≡ true → member f (layout_in p cs) ≡ true
+  laid f d [] m h = absurd cc
+  laid f d (c ∷ cs) m h = list_any-append (nat_eq f) (layout_in p cs) (plain_fields p c) ∙ elim (or_cases (nat_eq d c) (member d cs) m) [
+    | inl e ↦ or_right (member f (layout_in p cs)) (member f (plain_fields p c)) (subst (λ (x : ℕ). member f (plain_fields p x) ≡ true) (eqb-true d c e) h)
+    | inr e ↦ or_left (member f (layout_in p cs)) (member f (plain_fields p c)) (laid f d cs e h)
   ]
-    where
-      first : (xs ys : List ℕ) → member message_field xs ≡ true → member message_field (xs ++ ys) ≡ true
-      first [] ys e = absurd (cc)
-      first (x ∷ xs) ys e = elim (or_cases (nat_eq message_field x) (member message_field xs) e) [
-        | inl q ↦ or_left (nat_eq message_field x) (member message_field (xs ++ ys)) q
-        | inr q ↦ or_right (nat_eq message_field x) (member message_field (xs ++ ys)) (first xs ys q)
-      ]
-
-      second : (xs ys : List ℕ) → member message_field ys ≡ true → member message_field (xs ++ ys) ≡ true
-      second [] ys e = e
-      second (x ∷ xs) ys e = or_right (nat_eq message_field x) (member message_field (xs ++ ys)) (second xs ys e)
 
   -- a class below Throwable has the field
   pub message_of : (c : ℕ) → is_below p c throwable_class ≡ true → member message_field (layout p c) ≡ true
   unfolding is_below layout
-  message_of c b = in_layout (upwards p c) b
+  message_of c b = laid message_field throwable_class (upwards p c) b own_message
 
   pub message_spot : (w : World) (o : ℕ) → o < size w → IsKind p (kind_at w o) → IsInstance p (kind_at w o) (name_of p throwable_class) → IsSpot p w (place.Field o message_field)
   message_spot w o l k i = let b = instance_below p lk (kind_at w o) throwable_class k (builtin_is p lk 7 (omega arith)) throwable_plain i in (b.class, l, b.is, message_of b.class b.below)
@@ -398,18 +352,14 @@ module _ (p : Program) (lk : Linked p) where
   message_set w v h = subst (λ (d : List ℕ). IsDeclared p w d v) (sym message_text) (by v h)
     where
       by : (v : Value) → RefersTo p w string_name v → IsDeclared p w (codes "Ljava/lang/String;") v
-      by value.Null h = h
-      by (value.Lit n) h = h
-      by (value.Obj o) h = h
       by (value.Int n) h = absurd h
       by (value.Long n) h = absurd h
+      by _ h = h
 
   pub message_got : (w : World) (v : Value) → IsDeclared p w (field_at p message_field).descriptor v → RefersTo p w string_name v
   message_got w v h = by v (subst (λ (d : List ℕ). IsDeclared p w d v) message_text h)
     where
       by : (v : Value) → IsDeclared p w (codes "Ljava/lang/String;") v → RefersTo p w string_name v
-      by value.Null h = h
-      by (value.Lit n) h = h
-      by (value.Obj o) h = h
       by (value.Int n) h = absurd (let z : false ≡ true = h in cc)
       by (value.Long n) h = absurd (let z : 76 ≡ 74 = h in omega arith)
+      by _ h = h

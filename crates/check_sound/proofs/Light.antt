@@ -4,7 +4,7 @@ use Rattle.std.proofs.Common.{◌≡◌, ℕ, zero, suc, ◌+◌, ◌-◌, ◌<�
 use Rattle.std.specs.List.{list_all, list_any}
 use Rattle.std.specs.Prelude.{flat_map, is_some}
 use Rattle.std.proofs.lemmas.Bool.{and_parts, and_from, leb-true, ltb-true, not-true}
-use Rattle.std.proofs.lemmas.List.{length-append, length-map}
+use Rattle.std.proofs.lemmas.List.{length-append, length-map, Sums.length-filter, Sums.count_by-le-length}
 use Rattle.jvm_model.specs.declared.{library.Native.Native, program.Program.Program, program.ClassRec.ClassRec}
 use Rattle.jvm_model.specs.Builtin.{string_class, null_pointer_exception, builtin_count}
 use Rattle.jvm_model.specs.{Library.builtin_defs, Library.builtin_classes, Linked.Linked}
@@ -46,12 +46,7 @@ unfolding builtin_classes builtin_defs
 all_few = refl
 
 filter_short : (f : ℕ → Bool) (xs : List ℕ) → length (filter f xs) ≤ length xs
-filter_short f [] = omega arith
-filter_short f (x ∷ xs) = by (f x) (filter_short f xs)
-  where
-    by : (b : Bool) → length (filter f xs) ≤ length xs → length (cond b (x ∷ filter f xs) (filter f xs)) ≤ suc (length xs)
-    by true h = omega arith
-    by false h = omega arith
+filter_short f xs = let a = length-filter f xs in let b = count_by-le-length f xs in omega arith
 
 module _ (p : Program) (lk : Linked p) where
   -- ---- fields

@@ -10,13 +10,13 @@ use Rattle.type_frames.specs.declared.stack_effect.{OperandConstraint.OperandCon
 use Rattle.type_frames.specs.declared.stack_effect.OperandConstraint.TheVariants.{Fits, One, Half, Ref}
 use Rattle.type_frames.specs.Rules.{meets, is_ref, cut_long, set_one, is_read, all_read}
 use Rattle.type_frames.specs.TypedState.{IsInRange, IsInstance, RefersTo, HasType, HaveTypes}
-use Rattle.check_sound.proofs.{Wide.wide_before, Instances.instance_itself, Grow.Ranged, Ends.fault_typed, Thrown.builtin_is, Thrown.null_pointer_thrown}
+use Rattle.check_sound.proofs.{Wide.wide_before, Instances.instance_itself, Grow.Ranged, Ends.fault_typed, Thrown.builtin_is, Thrown.thrown}
 use Rattle.jvm_model.specs.declared.values.Value.TheVariants as value
 use Rattle.jvm_model.specs.declared.instr.Instr.TheVariants as form
 use Rattle.jvm_model.specs.declared.instr.Sort.TheVariants as sort
 use Rattle.jvm_model.specs.RowsMoves.{row_moves, is_long, loaded, stored}
 use Rattle.type_frames.specs.{declared.vtype.VType.VType, Descriptors.name_of, Environment.Environment, Frames.same, Frames.top_of, Typing.IsTyped}
-use Rattle.type_frames.specs.declared.vtype.VType.TheVariants.{Top, Int, Long, Null, Object, UninitThis, Uninit}
+use Rattle.type_frames.specs.declared.vtype.VType.TheVariants.{Top, Int, Long, Null}
 use Rattle.type_frames.specs.StackEffect.{sides, two, long_need, setting, reading}
 use Rattle.check_sound.proofs.Tree.{typed_done}
 use Rattle.check_sound.proofs.Held.{Is, is_fits, Held, Locals, IsShort, on_top, int_on, long_on, long_top}
@@ -37,25 +37,16 @@ local_type p w e (t ∷ ts) (v ∷ vs) zero u d h g m = (v, refl, record { type 
 local_type p w e (t ∷ ts) (v ∷ vs) (suc n) u d h g m = local_type p w e ts vs n u d h.1 g.1 m
 
 ref_short : (p : Program) (w : World) (e : Environment) (t : VType) (v : Value) → is_ref t ≡ true → HasType p w e t v → IsShort v
-ref_short p w e t value.Null m h = tt
-ref_short p w e t (value.Lit n) m h = tt
-ref_short p w e t (value.Obj n) m h = tt
-ref_short p w e t (value.Int n) m h = tt
-ref_short p w e Null (value.Long n) m h = h
-ref_short p w e (Object a) (value.Long n) m h = h
-ref_short p w e UninitThis (value.Long n) m h = h
-ref_short p w e (Uninit k) (value.Long n) m h = h
-ref_short p w e Top (value.Long n) m h = absurd (cc)
-ref_short p w e Int (value.Long n) m h = absurd (cc)
-ref_short p w e Long (value.Long n) m h = absurd (cc)
+ref_short p w e Top v m h = absurd (cc)
+ref_short p w e Int v m h = absurd (cc)
+ref_short p w e Long v m h = absurd (cc)
+ref_short p w e _ (value.Long n) m h = h
+ref_short p w e _ _ m h = tt
 
 -- a value of a type of one place
 short_type : (p : Program) (w : World) (e : Environment) (v : Value) → Is p w e Int v → IsShort v
-short_type p w e (value.Int n) h = tt
 short_type p w e (value.Long n) h = absurd h.type
-short_type p w e value.Null h = tt
-short_type p w e (value.Lit n) h = tt
-short_type p w e (value.Obj n) h = tt
+short_type p w e _ h = tt
 
 long_true : {p : Program} {w : World} {e : Environment} {v : Value} → Is p w e Long v → is_long v ≡ true
 long_true {v = value.Long n} h = refl
@@ -65,11 +56,8 @@ long_true {v = value.Lit n} h = absurd h.type
 long_true {v = value.Obj n} h = absurd h.type
 
 short_false : (v : Value) → IsShort v → is_long v ≡ false
-short_false (value.Int n) h = refl
 short_false (value.Long n) h = absurd h
-short_false value.Null h = refl
-short_false (value.Lit n) h = refl
-short_false (value.Obj n) h = refl
+short_false _ h = refl
 
 true_false : {b : Bool} {A : Type 0} → b ≡ true → b ≡ false → A
 true_false e f = absurd (cc)
@@ -78,20 +66,10 @@ ref_nullable : (p : Program) (w : World) (e : Environment) (t : VType) (v : Valu
 ref_nullable p w e t value.Null m h = tt
 ref_nullable p w e t (value.Lit n) m h = tt
 ref_nullable p w e t (value.Obj n) m h = tt
-ref_nullable p w e Null (value.Int n) m h = h
-ref_nullable p w e (Object a) (value.Int n) m h = h
-ref_nullable p w e UninitThis (value.Int n) m h = h
-ref_nullable p w e (Uninit k) (value.Int n) m h = h
-ref_nullable p w e Top (value.Int n) m h = absurd (cc)
-ref_nullable p w e Int (value.Int n) m h = absurd (cc)
-ref_nullable p w e Long (value.Int n) m h = absurd (cc)
-ref_nullable p w e Null (value.Long n) m h = h
-ref_nullable p w e (Object a) (value.Long n) m h = h
-ref_nullable p w e UninitThis (value.Long n) m h = h
-ref_nullable p w e (Uninit k) (value.Long n) m h = h
-ref_nullable p w e Top (value.Long n) m h = absurd (cc)
-ref_nullable p w e Int (value.Long n) m h = absurd (cc)
-ref_nullable p w e Long (value.Long n) m h = absurd (cc)
+ref_nullable p w e Top v m h = absurd (cc)
+ref_nullable p w e Int v m h = absurd (cc)
+ref_nullable p w e Long v m h = absurd (cc)
+ref_nullable p w e _ _ m h = h
 
 not_zero : (n : ℕ) → 0 < n → nat_eq n 0 ≡ false
 not_zero n h = elim (cases_Bool (nat_eq n 0)) [ inl q ↦ absurd (let z = eqb-true n 0 q in omega arith) | inr q ↦ q ]
@@ -99,17 +77,15 @@ not_zero n h = elim (cases_Bool (nat_eq n 0)) [ inl q ↦ absurd (let z = eqb-tr
 pub as_many : (p : Program) (w : World) (e : Environment) (ts : List VType) (vs : List Value) → HaveTypes p w e ts vs → length ts ≡ length vs
 as_many p w e [] [] h = refl
 as_many p w e (t ∷ ts) (v ∷ vs) h = ap suc (as_many p w e ts vs h.1)
-as_many p w e [] (v ∷ vs) h = absurd h
-as_many p w e (t ∷ ts) [] h = absurd h
+as_many p w e _ _ h = absurd h
 
 -- setting a local
 module _ (p : Program) (w : World) (e : Environment) where
   set_type : (ts : List VType) (vs : List Value) (n : ℕ) (t : VType) (v : Value) → HasType p w e t v → HaveTypes p w e ts vs → HaveTypes p w e (slice_set ts n t) (set vs n v)
   set_type [] [] n t v g h = h
-  set_type [] (x ∷ vs) n t v g h = absurd h
-  set_type (u ∷ ts) [] n t v g h = absurd h
   set_type (u ∷ ts) (x ∷ vs) zero t v g h = (g, h.1)
   set_type (u ∷ ts) (x ∷ vs) (suc n) t v g h = (h.0, set_type ts vs n t v g h.1)
+  set_type _ _ n t v g h = absurd h
 
   pub set_range : (vs : List Value) (n : ℕ) (v : Value) → IsInRange p w v → Ranged p w vs → Ranged p w (set vs n v)
   set_range [] n v g h = h
@@ -204,7 +180,7 @@ module _ (p : Program) (ty : IsTyped p) {w : World} {s : Entries} where
   pub monitor : Ready p w s form.Monitor → Row p w (row_moves p form.Monitor s)
   unfolding row_moves sides
   monitor r = popping-seen p (Ends p) w Ref tt (operands r) (λ v vs t us q h sv m o.
-      on_reference-typed p (Ends p) w (with_stack s vs) v (ref_nullable p w (here r) t v m h.type) (fault_typed p ty r null_pointer_exception vs (null_pointer_thrown p ty.linked) (rest_of o).range)
+      on_reference-typed p (Ends p) w (with_stack s vs) v (ref_nullable p w (here r) t v m h.type) (fault_typed p ty r null_pointer_exception vs (thrown p ty.linked null_pointer_exception refl) (rest_of o).range)
       (λ n. on p ty r refl r.locals (rest_of o)))
 
   -- ---- constants

@@ -27,7 +27,7 @@ use Rattle.check_sound.proofs.Tree.{Tree, typed_done, typed_read, typed_write, t
 use Rattle.check_sound.proofs.{TreeRuns.tree_bind, Grow.Ranged, WorldKept.spot_over, Onward.grows_itself, Onward.grows_make, Blank.blank_new}
 use Rattle.check_sound.proofs.Operands.{on_object-typed, on_reference-typed, head-typed, on_text-typed, choose-typed, refers_nullable}
 use Rattle.check_sound.proofs.Ready.{TypedEntries, Grows, IsThrown, HasPlain, Takes, Gives, gone_on, NativeCall}
-use Rattle.check_sound.proofs.Thrown.{builtin_is, null_pointer_thrown, string_index_thrown}
+use Rattle.check_sound.proofs.Thrown.{builtin_is, thrown}
 use Rattle.check_sound.proofs.Ends.{TurnsTo, Step, Tested, tested_over, new_kind, throws-typed}
 use Rattle.check_sound.proofs.LibraryTypes.{object_name, string_name, builder_name, result_of, takes_of, native_takes, native_gives, string_named, builder_named, string_instance, no_builder, no_throwable, message_spot, message_set, message_got}
 
@@ -38,10 +38,9 @@ string_kind (kind.Array d b) e = absurd (cc)
 module _ (p : Program) (w : World) where
   refers_range : (a : List ℕ) (v : Value) → RefersTo p w a v → IsInRange p w v
   refers_range a Null h = tt
-  refers_range a (Lit n) h = h.0
-  refers_range a (Obj o) h = h.0
   refers_range a (Int n) h = absurd h
   refers_range a (Long n) h = absurd h
+  refers_range a _ h = h.0
 
 module _ (p : Program) (ty : IsTyped p) (P : World → Answer Working → Type 0) (w : World) (s : Working) (rest : List Value) where
   abbrev R : Access (Answer Working) → Type 0
@@ -76,23 +75,17 @@ module _ (p : Program) (ty : IsTyped p) (P : World → Answer Working → Type 0
 
   int : (v : Value) {k : ℤ → Access (Answer Working)} → HasPlain p w vtype.Int v → ((n : ℤ) → R (k n)) → R (on_int v k)
   int (Int n) h r = r n
-  int (Long n) h r = absurd h
-  int Null h r = absurd h
-  int (Lit n) h r = absurd h
-  int (Obj o) h r = absurd h
+  int _ h r = absurd h
 
   long : (v : Value) {k : ℤ → Access (Answer Working)} → HasPlain p w vtype.Long v → ((n : ℤ) → R (k n)) → R (on_long v k)
   long (Long n) h r = r n
-  long (Int n) h r = absurd h
-  long Null h r = absurd h
-  long (Lit n) h r = absurd h
-  long (Obj o) h r = absurd h
+  long _ h r = absurd h
 
   null : (vs : List Value) → Faults → Ranged p w vs → P w (answer (Fault null_pointer_exception) (with_operands s vs))
-  null vs fault r = fault null_pointer_exception vs (null_pointer_thrown p ty.linked) r
+  null vs fault r = fault null_pointer_exception vs (thrown p ty.linked null_pointer_exception refl) r
 
   index_fault : (vs : List Value) → Faults → Ranged p w vs → P w (answer (Fault string_index_exception) (with_operands s vs))
-  index_fault vs fault r = fault string_index_exception vs (string_index_thrown p ty.linked) r
+  index_fault vs fault r = fault string_index_exception vs (thrown p ty.linked string_index_exception refl) r
 
   -- ---- a new String
 
@@ -142,11 +135,10 @@ module _ (p : Program) (ty : IsTyped p) (P : World → Answer Working → Type 0
       (λ q. typed_done (go w here s.own vs h.0))
 
   keeps_any : (r v : Value) (vs : List Value) → RefersTo p w throwable r → RefersTo p w object_name v → Left [] vs → Gone [] → Faults → R (keeps_object p s vs r v)
-  keeps_any r (Int n) vs e g h go fault = absurd g
-  keeps_any r (Long n) vs e g h go fault = absurd g
   keeps_any r Null vs e g h go fault = makes (codes "null") r vs e h go fault
   keeps_any r (Lit n) vs e g h go fault = keeps (constant_kind n) r (Lit n) vs e (λ q. (g.0, string_instance p ty.linked (constant_kind n) q)) h go fault
   keeps_any r (Obj o) vs e g h go fault = head-typed p P w o g.0 (λ k. keeps (kind_at w o) r (Obj o) vs e (λ q. (g.0, string_instance p ty.linked (kind_at w o) q)) h go fault)
+  keeps_any r _ vs e g h go fault = absurd g
 
   -- ---- String
 
@@ -164,11 +156,10 @@ module _ (p : Program) (ty : IsTyped p) (P : World → Answer Working → Type 0
       (λ q. typed_done (gives_int _ vs h go s.own))
 
   equals : (r v : Value) (vs : List Value) → RefersTo p w string_name r → RefersTo p w object_name v → Left [] vs → Gone (vtype.Int ∷ []) → P w (answer (Fault null_pointer_exception) s) → R (string_equals p s vs r v)
-  equals r (Int n) vs e g h go f = absurd g
-  equals r (Long n) vs e g h go f = absurd g
   equals r Null vs e g h go f = typed_done (gives_int _ vs h go s.own)
   equals r (Lit n) vs e g h go f = compare (class_of (constant_kind n)) r (Lit n) vs e g h go f
   equals r (Obj o) vs e g h go f = head-typed p P w o g.0 (λ k. compare (class_of (kind_at w o)) r (Obj o) vs e g h go f)
+  equals r _ vs e g h go f = absurd g
 
   join : (r : Value) (vs : List Value) (t u : List ℕ) → RefersTo p w string_name r → Left [] vs → Gone (string_type ∷ []) → R (joined p s vs r t u)
   join r vs t [] e h go = typed_done (go w here s.own (r ∷ vs) (e, refers_range p w string_name r e, h.0))
@@ -184,11 +175,10 @@ module _ (p : Program) (ty : IsTyped p) (P : World → Answer Working → Type 0
       (typed_done (go w here s.own (r ∷ vs) (subst (λ (a : List ℕ). RefersTo p w a r) (builder_named p ty.linked) e, refers_range p w builder r e, h.0))))))
 
   appends_text : (r v : Value) (vs : List Value) → RefersTo p w builder r → RefersTo p w string_name v → Left [] vs → Gone (vtype.Object builder_name ∷ []) → Faults → R (appends_string p s vs r v)
-  appends_text r (Int n) vs e g h go fault = absurd g
-  appends_text r (Long n) vs e g h go fault = absurd g
   appends_text r Null vs e g h go fault = adds (codes "null") r vs e h go fault
   appends_text r (Lit n) vs e g h go fault = adds _ r vs e h go fault
   appends_text r (Obj o) vs e g h go fault = typed_read g.0 (λ t q. adds t r vs e h go fault)
+  appends_text r _ vs e g h go fault = absurd g
 
   -- ---- the texts of one argument, of two
 
@@ -204,11 +194,10 @@ module _ (p : Program) (ty : IsTyped p) (P : World → Answer Working → Type 0
   changes name n x (Some t) vs h go = typed_spend (typed_write tt tt tt (makes_string t (typed_done (go (make_object w (blank p (instance_head string_class))) grown s.own (Obj (size w) ∷ vs) (new_string, more, h.0)))))
 
   prints_text : (end : List ℕ) (v : Value) (vs : List Value) → RefersTo p w string_name v → Left [] vs → Gone [] → R (prints_string p s vs end v)
-  prints_text end (Int n) vs e h go = absurd e
-  prints_text end (Long n) vs e h go = absurd e
   prints_text end Null vs e h go = print (codes "null" ++ end) vs h go
   prints_text end (Lit n) vs e h go = print _ vs h go
   prints_text end (Obj o) vs e h go = typed_read e.0 (λ t q. print (utf8_of t ++ end) vs h go)
+  prints_text end _ vs e h go = absurd e
 
   -- ---- the methods by group
 
@@ -353,7 +342,7 @@ module _ (p : Program) (ty : IsTyped p) {w : World} where
         stage = (tested_over p w v g.over s q).stage;
       }))
       (λ c vs i h. fault c vs i h)
-      (fault null_pointer_exception t.top.stack (null_pointer_thrown p ty.linked) call.range))
+      (fault null_pointer_exception t.top.stack (thrown p ty.linked null_pointer_exception refl) call.range))
       (λ v a k. k)
     where
       fault : (c : ℕ) (vs : List Value) → IsThrown p c → Ranged p w vs → Step p w (after_native p s (answer (Fault c) (record { entries = with_stack t vs; own = s.own })))

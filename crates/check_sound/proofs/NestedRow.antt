@@ -14,7 +14,7 @@ use Rattle.type_frames.specs.declared.{stack_effect.OperandConstraint.TheVariant
 use Rattle.type_frames.specs.{Descriptors.kind_name, StackEffect.sides, Typing.IsTyped}
 use Rattle.type_frames.specs.TypedState.{kind_at, IsInstance, IsReferenceOf, IsDeclared, element_text}
 use Rattle.check_sound.proofs.Tree.{head_at, Tree, typed_done, typed_write, typed_make, typed_spend, Over}
-use Rattle.check_sound.proofs.{TreeRuns.tree_bind, Grow.kind_over, Onward.grows_make, Onward.ready_grows, Ends.fault_typed, Thrown.negative_size_thrown}
+use Rattle.check_sound.proofs.{TreeRuns.tree_bind, Grow.kind_over, Onward.grows_make, Onward.ready_grows, Ends.fault_typed, Thrown.thrown}
 use Rattle.check_sound.proofs.Held.{Held, on_top, locals_over, held_over}
 use Rattle.check_sound.proofs.Operands.{Operands, rest_of, popping-fits, on_int-typed, choose-typed}
 use Rattle.check_sound.proofs.Ready.{Grows, Ends, Row, Ready, here, rest, operands, on, is_form, names_form}
@@ -64,8 +64,6 @@ module _ (p : Program) (ty : IsTyped p) where
       let x = blank p (array_head (kind.Array d b) n) in
       let t = newest w x in
       typed_make (blank_new p ty w (array_head (kind.Array d b) n) h) (typed_done (grows_make p w x, t.0, t.1))
-  nest-typed (m ∷ ms) n zero b h l w = absurd (omega arith)
-  nest-typed (m ∷ ms) n (suc zero) b h l w = absurd (omega arith)
   nest-typed (m ∷ ms) n (suc (suc d)) b h l w =
       let x = blank p (array_head (kind.Array (suc (suc d)) b) n) in
       let r = of_arrays p d b h in
@@ -73,6 +71,7 @@ module _ (p : Program) (ty : IsTyped p) where
       (children-typed (suc (suc d)) b (kind.Array (suc d) b) r (nest p (element_kind (kind.Array (suc (suc d)) b)) m ms)
       (λ v. subst (λ (k : Kind). Tree p (Makes v (kind.Array (suc d) b)) v (nest p k m ms)) (sym r.element) (nest-typed ms m (suc d) b r.is_kind (omega arith) v))
       w (make_object w x) n 0 (size w) n (grows_make p w x) (newest w x) (omega arith))
+  nest-typed (m ∷ ms) n _ b h l w = absurd (omega arith)
 
 module _ (p : Program) (w : World) where
   at_size : (s : Entries) (k : Kind) (d : ℕ) (vs : List Value) (bad : Bool) (ns : List ℕ) (i : ℤ) → ((b : Bool) (ms : List ℕ) → (b ≡ false → (bad ≡ false) × (length ms ≡ suc (length ns))) → Row p w (sized p k s d vs b ms))
@@ -92,7 +91,7 @@ module _ (p : Program) (ty : IsTyped p) {w : World} {s : Entries} where
   sized-typed : (k : Kind) (dims : ℕ) (r : Ready p w s (form.MultiNewArray k dims)) → IsArray p k → 0 < dims → dims ≤ dims_of k → (d : ℕ) (bad : Bool) (ns : List ℕ) (ts : List VType) (vs : List Value) → (bad ≡ false → d + length ns ≡ dims)
       → Operands p w (here r) (replicate d (Fits Int)) ts (rest r) vs → Row p w (sized p k s d vs bad ns)
   sized-typed k dims r h a b zero bad ns ts vs f o = choose-typed p (Ends p) w bad
-      (λ e. typed_done (fault_typed p ty r negative_size_exception vs (negative_size_thrown p ty.linked) (rest_of o).range))
+      (λ e. typed_done (fault_typed p ty r negative_size_exception vs (thrown p ty.linked negative_size_exception refl) (rest_of o).range))
       (λ e. nested-typed k dims r vs ns (let q = f e in omega arith) h a b (rest_of o))
   sized-typed k dims r h a b (suc d) bad ns ts vs f o = popping-fits p (Ends p) w ty.linked Int tt o (λ v ws us i sv q. on_int-typed p (Ends p) w v i (λ n.
       at_size p w s k d ws bad ns n (λ c ms g. sized-typed k dims r h a b d c ms us ws (λ z. let y = g z in let x = f y.0 in let l = y.1 in omega arith) q)))

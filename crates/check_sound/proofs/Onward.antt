@@ -88,8 +88,7 @@ module _ (p : Program) (u w : World) (g : Over u w) where
   below_over f a InMethod InMethod r h = waits_over p u w g a.number f h
   below_over f a InMethod (InClass b) r h = goes_over p u w g f h
   below_over f a (InClass b) j r h = (initialises_over f r.0 h.0, h.1)
-  below_over f a InMethod Absent r h = absurd h
-  below_over f a Absent j r h = absurd h
+  below_over f a _ _ r h = absurd h
 
   stay_parts : (cs ds : List ℕ) → StayRunning u w (cs ++ ds) → StayRunning u w cs × StayRunning u w ds
   stay_parts [] ds h = (tt, h)
@@ -140,9 +139,8 @@ running_in p w a [] h c q = tt
 running_in p w a (f ∷ fs) h c q = by f.kind a.kind h.0 (running_in p w f fs h.1 c q)
   where
     by : (i j : EntryKind) → IsBelow p w f i a j → AllByRecursion (λ d. nat_eq c d ≡ false) (flat_map class_begun fs) → AllByRecursion (λ d. nat_eq c d ≡ false) (elim i as (λ x. List ℕ) [ Absent ↦ [] | InMethod ↦ [] | InClass b ↦ f.number ∷ [] ] ++ flat_map class_begun fs)
-    by InMethod j h r = r
-    by Absent j h r = r
     by (InClass b) j h r = (differs p w f c h.0 q, r)
+    by _ j h r = r
 
 pub whole : (s : Entries) → s.top.kind ≡ InMethod → all_entries s ≡ s.top ∷ s.below
 whole s q = ap (λ (k : EntryKind). elim k as (λ x. List Entry) [ Absent ↦ s.below | InMethod ↦ s.top ∷ s.below | InClass b ↦ s.top ∷ s.below ]) q

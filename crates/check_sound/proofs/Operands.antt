@@ -8,8 +8,8 @@ use Rattle.jvm_model.specs.{World.World, World.size, Access.Access, Access.read,
 use Rattle.jvm_model.specs.Linked.{Linked, IsKind}
 use Rattle.jvm_model.specs.Rows.{Answer, answer, popping, on_int, on_long, on_object, on_reference, with_kind, on_text, constant_kind}
 use Rattle.type_frames.specs.{declared.vtype.VType.VType, declared.stack_effect.OperandConstraint.OperandConstraint, Environment.Environment}
-use Rattle.type_frames.specs.declared.vtype.VType.TheVariants.{Top, Int, Long, Null, Object, UninitThis, Uninit}
-use Rattle.type_frames.specs.declared.stack_effect.OperandConstraint.TheVariants.{Fits, One, Half, Ref, Raw, Small, Array, Never}
+use Rattle.type_frames.specs.declared.vtype.VType.TheVariants.{Top, Int, Long, Null}
+use Rattle.type_frames.specs.declared.stack_effect.OperandConstraint.TheVariants.{Fits, Half}
 use Rattle.type_frames.specs.{Rules.meets, Rules.meet_all, TypedState.kind_at, TypedState.IsInstance, TypedState.RefersTo, TypedState.HaveStackTypes}
 use Rattle.check_sound.proofs.{Tree.head_at, Tree.Tree, Tree.typed_done, Tree.typed_read, Held.Is, Held.Held, Held.IsShort, Held.is_fits}
 
@@ -44,15 +44,9 @@ pub record Popped (p : Program) (w : World) (e : Environment) (ns : List Operand
 module _ (p : Program) (w : World) (e : Environment) where
   no_top : (n : OperandConstraint) → IsPop n → meets p n Top ≡ true → ⊥
   no_top Half i m = i
-  no_top One i m = cc
-  no_top Ref i m = cc
-  no_top Raw i m = cc
-  no_top Small i m = cc
-  no_top Array i m = cc
-  no_top Never i m = cc
   no_top (Fits Top) i m = i
   no_top (Fits Long) i m = i
-  no_top (Fits _) i m = cc
+  no_top _ i m = cc
 
   pub none_there : (n : OperandConstraint) (ns : List OperandConstraint) (ts rest : List VType) → Operands p w e (n ∷ ns) ts rest [] → ⊥
   none_there n ns [] rest o = let q : suc (length ns) ≤ 0 = o.enough in omega arith
@@ -69,35 +63,19 @@ module _ (p : Program) (w : World) (e : Environment) where
       record { type = t; below = ts; seen = refl; is = i; met = m.0; short = s; operands = record { enough = omega arith; met = m.1; left = o.left; held = h } }
 
   pub popped : (n : OperandConstraint) (ns : List OperandConstraint) (ts rest : List VType) (v : Value) (vs : List Value) → IsPop n → Operands p w e (n ∷ ns) ts rest (v ∷ vs) → Popped p w e ns n ts rest v vs
-  popped n ns (t ∷ ts) rest (value.Int a) vs i o = one_popped n ns t ts rest (value.Int a) vs tt (record { type = o.held.types.0; range = o.held.range.0 }) (record { types = o.held.types.1; range = o.held.range.1 }) o
-  popped n ns (t ∷ ts) rest value.Null vs i o = one_popped n ns t ts rest value.Null vs tt (record { type = o.held.types.0; range = o.held.range.0 }) (record { types = o.held.types.1; range = o.held.range.1 }) o
-  popped n ns (t ∷ ts) rest (value.Lit a) vs i o = one_popped n ns t ts rest (value.Lit a) vs tt (record { type = o.held.types.0; range = o.held.range.0 }) (record { types = o.held.types.1; range = o.held.range.1 }) o
-  popped n ns (t ∷ ts) rest (value.Obj a) vs i o = one_popped n ns t ts rest (value.Obj a) vs tt (record { type = o.held.types.0; range = o.held.range.0 }) (record { types = o.held.types.1; range = o.held.range.1 }) o
   popped n ns (t ∷ ts) rest (value.Long a) vs i o = absurd (not_long t n ts a vs i (and_parts _ _ o.met).0 o.held.types)
+  popped n ns (t ∷ ts) rest v vs i o = one_popped n ns t ts rest v vs tt (record { type = o.held.types.0; range = o.held.range.0 }) (record { types = o.held.types.1; range = o.held.range.1 }) o
   popped n ns [] rest v vs i o = absurd (let q : suc (length ns) ≤ 0 = o.enough in omega arith)
 
   lower : (u : VType) (us : List VType) (vs : List Value) → meets p (Fits Long) u ≡ true → HaveStackTypes p w e (u ∷ us) vs → ⊥
   lower Long us [] m h = let q : Long ∷ us ≡ [] = h in absurd (cc)
-  lower Long us (value.Int a ∷ vs) m h = h.0
-  lower Long us (value.Null ∷ vs) m h = h.0
-  lower Long us (value.Lit a ∷ vs) m h = h.0
-  lower Long us (value.Obj a ∷ vs) m h = h.0
   lower Long us (value.Long a ∷ vs) m h = h
-  lower Top us vs m h = cc
-  lower Int us vs m h = cc
-  lower Null us vs m h = cc
-  lower (Object a) us vs m h = cc
-  lower UninitThis us vs m h = cc
-  lower (Uninit a) us vs m h = cc
+  lower Long us (_ ∷ vs) m h = h.0
+  lower _ us vs m h = cc
 
   is_long_type : (u : VType) → meets p (Fits Long) u ≡ true → u ≡ Long
   is_long_type Long m = refl
-  is_long_type Top m = absurd (cc)
-  is_long_type Int m = absurd (cc)
-  is_long_type Null m = absurd (cc)
-  is_long_type (Object a) m = absurd (cc)
-  is_long_type UninitThis m = absurd (cc)
-  is_long_type (Uninit a) m = absurd (cc)
+  is_long_type _ m = absurd (cc)
 
   -- a long on top, which takes two places
   pub record LongPopped (ns : List OperandConstraint) (ts rest : List VType) (v : Value) (vs : List Value) : Type 0 where
@@ -115,11 +93,8 @@ module _ (p : Program) (w : World) (e : Environment) where
         is = record { type = tt; range = tt };
         operands = record { enough = omega arith; met = (and_parts (meets p (Fits Long) u) (meet_all p ns ts) (and_parts (meets p Half Top) (meets p (Fits Long) u && meet_all p ns ts) o.met).1).1; left = o.left; held = record { types = o.held.types.1; range = o.held.range.1 } };
       }
-  long_popped ns (t ∷ u ∷ ts) rest (value.Int a) vs o = absurd (lower u ts vs (and_parts _ _ (and_parts _ _ o.met).1).0 o.held.types.1)
-  long_popped ns (t ∷ u ∷ ts) rest value.Null vs o = absurd (lower u ts vs (and_parts _ _ (and_parts _ _ o.met).1).0 o.held.types.1)
-  long_popped ns (t ∷ u ∷ ts) rest (value.Lit a) vs o = absurd (lower u ts vs (and_parts _ _ (and_parts _ _ o.met).1).0 o.held.types.1)
-  long_popped ns (t ∷ u ∷ ts) rest (value.Obj a) vs o = absurd (lower u ts vs (and_parts _ _ (and_parts _ _ o.met).1).0 o.held.types.1)
   long_popped ns (t ∷ u ∷ ts) rest (value.Long a) vs o = absurd o.held.types
+  long_popped ns (t ∷ u ∷ ts) rest _ vs o = absurd (lower u ts vs (and_parts (meets p (Fits Long) u) (meet_all p ns ts) (and_parts (meets p Half t) (meets p (Fits Long) u && meet_all p ns ts) o.met).1).0 o.held.types.1)
   long_popped ns (t ∷ []) rest v vs o = absurd (let q : suc (suc (length ns)) ≤ 1 = o.enough in omega arith)
   long_popped ns [] rest v vs o = absurd (let q : suc (suc (length ns)) ≤ 0 = o.enough in omega arith)
 
@@ -143,9 +118,7 @@ IsKindOf p w v x = ⊥
 pub refers_nullable : (p : Program) (w : World) (a : List ℕ) (v : Value) → RefersTo p w a v → IsNullable v
 refers_nullable p w a (value.Int n) h = h
 refers_nullable p w a (value.Long n) h = h
-refers_nullable p w a value.Null h = tt
-refers_nullable p w a (value.Lit n) h = tt
-refers_nullable p w a (value.Obj o) h = tt
+refers_nullable p w a _ h = tt
 
 -- what comes after an operand, for answers of any sort
 module _ (p : Program) {S : Type 0} (P : World → Answer S → Type 0) (w : World) where
@@ -179,52 +152,41 @@ module _ (p : Program) {S : Type 0} (P : World → Answer S → Type 0) (w : Wor
 
   pub on_int-typed : {e : Environment} (v : Value) {k : ℤ → Access (Answer S)} → Is p w e Int v → ((n : ℤ) → Tree p P w (k n)) → Tree p P w (on_int v k)
   on_int-typed (value.Int n) h r = r n
-  on_int-typed (value.Long n) h r = absurd h.type
-  on_int-typed value.Null h r = absurd h.type
-  on_int-typed (value.Lit n) h r = absurd h.type
-  on_int-typed (value.Obj o) h r = absurd h.type
+  on_int-typed _ h r = absurd h.type
 
   pub on_long-typed : {e : Environment} (v : Value) {k : ℤ → Access (Answer S)} → Is p w e Long v → ((n : ℤ) → Tree p P w (k n)) → Tree p P w (on_long v k)
   on_long-typed (value.Long n) h r = r n
-  on_long-typed (value.Int n) h r = absurd h.type
-  on_long-typed value.Null h r = absurd h.type
-  on_long-typed (value.Lit n) h r = absurd h.type
-  on_long-typed (value.Obj o) h r = absurd h.type
+  on_long-typed _ h r = absurd h.type
 
   -- an object of a type that no constant has; null throws
   pub on_object-typed : (s : S) (a : List ℕ) (v : Value) {k : ℕ → Access (Answer S)} → RefersTo p w a v → ((n : ℕ) → IsInstance p (constant_kind n) a → ⊥) → P w (answer (Fault null_pointer_exception) s)
       → ((o : ℕ) → o < size w → IsInstance p (kind_at w o) a → Tree p P w (k o)) → Tree p P w (on_object s v k)
-  on_object-typed s a (value.Int n) h c f r = absurd h
-  on_object-typed s a (value.Long n) h c f r = absurd h
   on_object-typed s a value.Null h c f r = typed_done f
   on_object-typed s a (value.Lit n) h c f r = absurd (c n h.1)
   on_object-typed s a (value.Obj o) h c f r = r o h.0 h.1
+  on_object-typed s a _ h c f r = absurd h
 
   -- a reference; null throws
   pub on_reference-typed : (s : S) (v : Value) {k : Access (Answer S)} → IsNullable v → P w (answer (Fault null_pointer_exception) s) → (IsNonNull v → Tree p P w k) → Tree p P w (on_reference s v k)
-  on_reference-typed s (value.Int n) h f r = absurd h
-  on_reference-typed s (value.Long n) h f r = absurd h
   on_reference-typed s value.Null h f r = typed_done f
   on_reference-typed s (value.Lit n) h f r = r tt
   on_reference-typed s (value.Obj o) h f r = r tt
+  on_reference-typed s _ h f r = absurd h
 
   -- the head of an object
   pub head-typed : (o : ℕ) {k : Head → Access (Answer S)} → o < size w → (IsKind p (kind_at w o) → Tree p P w (k (head_at w o))) → Tree p P w (read (place.Head o) k)
   head-typed o {k = k} h r = typed_read h (λ c f. subst (λ (z : Head). Tree p P w (k z)) (sym f.0) (r (subst (λ (z : Head). IsKind p z.kind) f.0 f.1)))
 
   pub with_kind-typed : (a : List ℕ) (v : Value) {k : Kind → Access (Answer S)} → IsNonNull v → RefersTo p w a v → ((x : Kind) → IsInstance p x a → IsKindOf p w v x → Tree p P w (k x)) → Tree p P w (with_kind v k)
-  with_kind-typed a (value.Int n) i h r = absurd i
-  with_kind-typed a (value.Long n) i h r = absurd i
-  with_kind-typed a value.Null i h r = absurd i
   with_kind-typed a (value.Lit n) i h r = r (constant_kind n) h.1 refl
   with_kind-typed a (value.Obj o) i h r = head-typed o h.0 (λ q. r (kind_at w o) h.1 (refl, q))
+  with_kind-typed a _ i h r = absurd i
 
   pub on_text-typed : (s : S) (a : List ℕ) (v : Value) {k : List ℕ → Access (Answer S)} → RefersTo p w a v → P w (answer (Fault null_pointer_exception) s) → ((t : List ℕ) → Tree p P w (k t)) → Tree p P w (on_text p s v k)
-  on_text-typed s a (value.Int n) h f r = absurd h
-  on_text-typed s a (value.Long n) h f r = absurd h
   on_text-typed s a value.Null h f r = typed_done f
   on_text-typed s a (value.Lit n) h f r = r (literal_at p n)
   on_text-typed s a (value.Obj o) h f r = typed_read h.0 (λ t q. r t)
+  on_text-typed s a _ h f r = absurd h
 
   pub choose-typed : (b : Bool) {t u : Access (Answer S)} → (b ≡ true → Tree p P w t) → (b ≡ false → Tree p P w u) → Tree p P w (cond b t u)
   choose-typed true f g = f refl

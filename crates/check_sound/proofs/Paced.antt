@@ -5,7 +5,7 @@ use Rattle.jvm_model.specs.declared.{values.Value.Value, values.Kind.Kind, value
 use Rattle.jvm_model.specs.declared.values.Value.TheVariants as value
 use Rattle.jvm_model.specs.declared.values.Location.TheVariants as place
 use Rattle.jvm_model.specs.{declared.outcome.Next.Next, declared.program.Program.Program, Builtin.null_pointer_exception, Entries.Entries}
-use Rattle.jvm_model.specs.declared.outcome.Next.TheVariants.{Go, Fault, Raise, Enter, Leave, Over}
+use Rattle.jvm_model.specs.declared.outcome.Next.TheVariants.{Go, Fault, Enter}
 use Rattle.jvm_model.specs.World.{World, Object, Content, size, at, put, make_object}
 use Rattle.jvm_model.specs.Access.{Access, done, read, write, make, spend, bind, run, read_of, write_of, fields_made, elems_made, text_made, made}
 use Rattle.jvm_model.specs.Classes.{method_at, is_private, is_static, layout, literal_at}
@@ -96,61 +96,41 @@ allowed M l m f e = subst (MayWrite M) (ap (λ (y : Touch). y.location) e) m
 -- what may be read may be touched, and so may what may be written
 from_read : (M : Limits) (l : Location) → MayRead M l → MayTouch M l
 from_read M (place.Static f) m = inl m
-from_read M (place.Init c) m = m
-from_read M (place.Head o) m = tt
-from_read M (place.Field o f) m = tt
-from_read M (place.Elem o i) m = tt
-from_read M (place.Text o) m = tt
-from_read M (place.File n) m = tt
-from_read M (place.Prop n) m = tt
+from_read M _ m = m
 
 from_write : (M : Limits) (l : Location) → MayWrite M l → MayTouch M l
 from_write M (place.Static f) m = inr m
-from_write M (place.Init c) m = m
-from_write M (place.Head o) m = tt
-from_write M (place.Field o f) m = tt
-from_write M (place.Elem o i) m = tt
-from_write M (place.Text o) m = tt
-from_write M (place.File n) m = tt
-from_write M (place.Prop n) m = tt
+from_write M _ m = m
 
 -- the touch is allowed
 abbrev pub TouchOf : Limits → Touch → Type 0
 TouchOf M t = MayTouch M t.location
 
--- making an object touches no static and no state
-module _ (M : Limits) (o : ℕ) where
-  fields_writes : (xs : List (ℕ × Value)) → Writes M.puts (fields_made o xs)
-  fields_writes [] = All-nil (WriteOf M.puts)
-  fields_writes (x ∷ xs) = All-cons (WriteOf M.puts) (write_of (place.Field o x.0)) (fields_made o xs) (allowed M (place.Field o x.0) tt) (fields_writes xs)
+-- The touches of a run are of Q, where those of what may be read and of what may be written are: making an object touches no
+-- static and no state.
+module _ (M : Limits) (Q : Touch → Type 0) (reads : (l : Location) (c : Content l) → MayRead M l → Q (read_of l c)) (writes : (l : Location) → MayWrite M l → Q (write_of l)) where
+  fields_all : (o : ℕ) (xs : List (ℕ × Value)) → All Q (fields_made o xs)
+  fields_all o [] = All-nil Q
+  fields_all o (x ∷ xs) = All-cons Q (write_of (place.Field o x.0)) (fields_made o xs) (writes (place.Field o x.0) tt) (fields_all o xs)
 
-  elems_writes : (i : ℕ) (xs : List Value) → Writes M.puts (elems_made o i xs)
-  elems_writes i [] = All-nil (WriteOf M.puts)
-  elems_writes i (x ∷ xs) = All-cons (WriteOf M.puts) (write_of (place.Elem o i)) (elems_made o (suc i) xs) (allowed M (place.Elem o i) tt) (elems_writes (suc i) xs)
+  elems_all : (o i : ℕ) (xs : List Value) → All Q (elems_made o i xs)
+  elems_all o i [] = All-nil Q
+  elems_all o i (x ∷ xs) = All-cons Q (write_of (place.Elem o i)) (elems_made o (suc i) xs) (writes (place.Elem o i) tt) (elems_all o (suc i) xs)
 
-  text_writes : (t : Option (List ℕ)) → Writes M.puts (text_made o t)
-  text_writes None = All-nil (WriteOf M.puts)
-  text_writes (Some t) = All-cons (WriteOf M.puts) (write_of (place.Text o)) [] (allowed M (place.Text o) tt) (All-nil (WriteOf M.puts))
+  text_all : (o : ℕ) (t : Option (List ℕ)) → All Q (text_made o t)
+  text_all o None = All-nil Q
+  text_all o (Some t) = All-cons Q (write_of (place.Text o)) [] (writes (place.Text o) tt) (All-nil Q)
 
-  made_writes : (x : Object) → Writes M.puts (made o x)
-  made_writes x = All-cons (WriteOf M.puts) (write_of (place.Head o)) _ (allowed M (place.Head o) tt)
-      (All-append (WriteOf M.puts) (fields_made o x.fields) _ (fields_writes x.fields) (All-append (WriteOf M.puts) (elems_made o 0 x.elems) (text_made o x.text) (elems_writes 0 x.elems) (text_writes x.text)))
+  made_all : (o : ℕ) (x : Object) → All Q (made o x)
+  made_all o x = All-cons Q (write_of (place.Head o)) _ (writes (place.Head o) tt)
+      (All-append Q (fields_made o x.fields) _ (fields_all o x.fields) (All-append Q (elems_made o 0 x.elems) (text_made o x.text) (elems_all o 0 x.elems) (text_all o x.text)))
 
-  fields_touched : (xs : List (ℕ × Value)) → All (TouchOf M) (fields_made o xs)
-  fields_touched [] = All-nil (TouchOf M)
-  fields_touched (x ∷ xs) = All-cons (TouchOf M) (write_of (place.Field o x.0)) (fields_made o xs) tt (fields_touched xs)
-
-  elems_touched : (i : ℕ) (xs : List Value) → All (TouchOf M) (elems_made o i xs)
-  elems_touched i [] = All-nil (TouchOf M)
-  elems_touched i (x ∷ xs) = All-cons (TouchOf M) (write_of (place.Elem o i)) (elems_made o (suc i) xs) tt (elems_touched (suc i) xs)
-
-  text_touched : (t : Option (List ℕ)) → All (TouchOf M) (text_made o t)
-  text_touched None = All-nil (TouchOf M)
-  text_touched (Some t) = All-cons (TouchOf M) (write_of (place.Text o)) [] tt (All-nil (TouchOf M))
-
-  made_touched : (x : Object) → All (TouchOf M) (made o x)
-  made_touched x = All-cons (TouchOf M) (write_of (place.Head o)) _ tt
-      (All-append (TouchOf M) (fields_made o x.fields) _ (fields_touched x.fields) (All-append (TouchOf M) (elems_made o 0 x.elems) (text_made o x.text) (elems_touched 0 x.elems) (text_touched x.text)))
+  paced_all : {A : Type 0} (G : ℕ → ℕ → A → Type 0) (t : Access A) (w : World) (c d : ℕ) → Paced M G c d t → All Q (run t w).touches
+  paced_all G (done a) w c d (paced_done h) = All-nil Q
+  paced_all G (read l k) w c d (paced_read m h) = All-cons Q (read_of l (at w l)) _ (reads l (at w l) m) (paced_all G (k (at w l)) w c (suc d) (h (at w l)))
+  paced_all G (write l x t) w c d (paced_write m h) = All-cons Q (write_of l) _ (writes l m) (paced_all G t (put w l x) c (suc d) h)
+  paced_all G (make x k) w c d (paced_make h) = All-append Q (made (size w) x) _ (made_all (size w) x) (paced_all G (k (size w)) (make_object w x) c (d + cells x) (h (size w)))
+  paced_all G (spend n t) w c d (paced_spend h) = paced_all G t w (c + 4 * n) d h
 
 module _ (M : Limits) {A : Type 0} (G : ℕ → ℕ → A → Type 0) where
   -- the touches and four times the units of a run
@@ -166,29 +146,15 @@ module _ (M : Limits) {A : Type 0} (G : ℕ → ℕ → A → Type 0) where
 
   -- each write of a static is allowed
   pub paced_writes : (t : Access A) (w : World) (c d : ℕ) → Paced M G c d t → Writes M.puts (run t w).touches
-  paced_writes (done a) w c d (paced_done h) = All-nil (WriteOf M.puts)
-  paced_writes (read l k) w c d (paced_read m h) = All-cons (WriteOf M.puts) (read_of l (at w l)) _ (λ f e. absurd (let z : false ≡ true = ap (λ (y : Touch). y.write) e in cc)) (paced_writes (k (at w l)) w c (suc d) (h (at w l)))
-  paced_writes (write l x t) w c d (paced_write m h) = All-cons (WriteOf M.puts) (write_of l) _ (allowed M l m) (paced_writes t (put w l x) c (suc d) h)
-  paced_writes (make x k) w c d (paced_make h) = All-append (WriteOf M.puts) (made (size w) x) _ (made_writes M (size w) x) (paced_writes (k (size w)) (make_object w x) c (d + cells x) (h (size w)))
-  paced_writes (spend n t) w c d (paced_spend h) = paced_writes t w (c + 4 * n) d h
+  paced_writes t w c d h = paced_all M (WriteOf M.puts) (λ l x m f e. absurd (let z : false ≡ true = ap (λ (y : Touch). y.write) e in cc)) (λ l m. allowed M l m) G t w c d h
 
   -- each touch of a static and of a state is allowed
   pub paced_touched : (t : Access A) (w : World) (c d : ℕ) → Paced M G c d t → Meets (λ f. M.gets f ⊎ M.puts f) M.states (run t w).touches
-  paced_touched (done a) w c d (paced_done h) = All-nil (TouchOf M)
-  paced_touched (read l k) w c d (paced_read m h) = All-cons (TouchOf M) (read_of l (at w l)) _ (from_read M l m) (paced_touched (k (at w l)) w c (suc d) (h (at w l)))
-  paced_touched (write l x t) w c d (paced_write m h) = All-cons (TouchOf M) (write_of l) _ (from_write M l m) (paced_touched t (put w l x) c (suc d) h)
-  paced_touched (make x k) w c d (paced_make h) = All-append (TouchOf M) (made (size w) x) _ (made_touched M (size w) x) (paced_touched (k (size w)) (make_object w x) c (d + cells x) (h (size w)))
-  paced_touched (spend n t) w c d (paced_spend h) = paced_touched t w (c + 4 * n) d h
+  paced_touched t w c d h = paced_all M (TouchOf M) (λ l x m. from_read M l m) (λ l m. from_write M l m) G t w c d h
 
   static_put : (w : World) (f : ℕ) (l : Location) (x : Content l) → (M.puts f → ⊥) → MayWrite M l → at (put w l x) (place.Static f) ≡ at w (place.Static f)
   static_put w f (place.Static g) x n m = at_put_other w (place.Static g) (place.Static f) x (λ e. n (subst (MayWrite M) (sym e) m))
-  static_put w f (place.Init g) x n m = refl
-  static_put w f (place.Head o) x n m = refl
-  static_put w f (place.Field o g) x n m = refl
-  static_put w f (place.Elem o i) x n m = refl
-  static_put w f (place.Text o) x n m = refl
-  static_put w f (place.File k) x n m = refl
-  static_put w f (place.Prop k) x n m = refl
+  static_put w f _ x n m = refl
 
   -- a static that may not be written stays as it was
   pub paced_statics : (f : ℕ) → (M.puts f → ⊥) → (t : Access A) (w : World) (c d : ℕ) → Paced M G c d t → at (run t w).world (place.Static f) ≡ at w (place.Static f)
@@ -218,12 +184,9 @@ LeavesFor p c d m None = Unit {0}
 LeavesFor p c d m (Some x) = (d + 4 ≤ c) ⊎ ((d + 3 ≤ c) × ((is_private (method_at p m).flags ≡ true) ⊎ (is_static (method_at p m).flags ≡ false)))
 
 abbrev pub PaysBy : Program → ℕ → ℕ → Next → Type 0
-PaysBy p c d Go = Unit {0}
 PaysBy p c d (Fault e) = IsLight p e
-PaysBy p c d (Raise v) = Unit {0}
 PaysBy p c d (Enter m) = LeavesFor p c d m (method_at p m).native
-PaysBy p c d Leave = Unit {0}
-PaysBy p c d Over = Unit {0}
+PaysBy p c d _ = Unit {0}
 
 abbrev pub Pays : Program → {S : Type 0} → ℕ → ℕ → Answer S → Type 0
 Pays p c d (answer x s) = (d ≤ c) × PaysBy p c d x
@@ -239,12 +202,7 @@ Cut p B c d a = Pays p c d a
 
 pub pays_cut : (p : Program) (B : Type 0) {S : Type 0} (c d : ℕ) (a : Answer S) → Pays p c d a → Cut p B c d a
 pays_cut p B c d (answer Go s) h = inl h.0
-pays_cut p B c d (answer (Fault e) s) h = h
-pays_cut p B c d (answer (Raise v) s) h = h
-pays_cut p B c d (answer (Enter m) s) h = h
-pays_cut p B c d (answer Leave s) h = h
-pays_cut p B c d (answer Over s) h = h
-pays_cut p B c d stuck_row h = h
+pays_cut p B c d _ h = h
 
 abbrev pub CutRow : Program → Limits → Type 0 → Access (Answer Entries) → Type 0
 CutRow p M B t = Paced M (λ c d a. Cut p B c d a) 4 0 t
@@ -258,44 +216,32 @@ module _ (p : Program) (light : IsLight p null_pointer_exception) {M : Limits} {
 
   pub on_int-paced : (v : Value) {k : ℤ → Access (Answer S)} → ((n : ℤ) → PacedRow p M c d (k n)) → PacedRow p M c d (on_int v k)
   on_int-paced (value.Int n) r = r n
-  on_int-paced (value.Long n) r = paced_done e
-  on_int-paced value.Null r = paced_done e
-  on_int-paced (value.Lit n) r = paced_done e
-  on_int-paced (value.Obj o) r = paced_done e
+  on_int-paced _ r = paced_done e
 
   pub on_long-paced : (v : Value) {k : ℤ → Access (Answer S)} → ((n : ℤ) → PacedRow p M c d (k n)) → PacedRow p M c d (on_long v k)
-  on_long-paced (value.Int n) r = paced_done e
   on_long-paced (value.Long n) r = r n
-  on_long-paced value.Null r = paced_done e
-  on_long-paced (value.Lit n) r = paced_done e
-  on_long-paced (value.Obj o) r = paced_done e
+  on_long-paced _ r = paced_done e
 
   pub on_object-paced : (s : S) (v : Value) {k : ℕ → Access (Answer S)} → ((o : ℕ) → PacedRow p M c d (k o)) → PacedRow p M c d (on_object s v k)
-  on_object-paced s (value.Int n) r = paced_done e
-  on_object-paced s (value.Long n) r = paced_done e
   on_object-paced s value.Null r = paced_done (e, light)
-  on_object-paced s (value.Lit n) r = paced_done e
   on_object-paced s (value.Obj o) r = r o
+  on_object-paced s _ r = paced_done e
 
   pub on_reference-paced : (s : S) (v : Value) {k : Access (Answer S)} → PacedRow p M c d k → PacedRow p M c d (on_reference s v k)
-  on_reference-paced s (value.Int n) r = paced_done e
-  on_reference-paced s (value.Long n) r = paced_done e
   on_reference-paced s value.Null r = paced_done (e, light)
   on_reference-paced s (value.Lit n) r = r
   on_reference-paced s (value.Obj o) r = r
+  on_reference-paced s _ r = paced_done e
 
   -- one touch where a head is read, none of a constant
   pub with_kind-paced : (v : Value) {k : Kind → Access (Answer S)} → ((x : Kind) → PacedRow p M c d (k x)) → ((x : Kind) → PacedRow p M c (suc d) (k x)) → PacedRow p M c d (with_kind v k)
-  with_kind-paced (value.Int n) r q = paced_done e
-  with_kind-paced (value.Long n) r q = paced_done e
-  with_kind-paced value.Null r q = paced_done e
   with_kind-paced (value.Lit n) r q = r (constant_kind n)
   with_kind-paced (value.Obj o) r q = paced_read tt (λ h. q h.kind)
+  with_kind-paced _ r q = paced_done e
 
   -- one touch where a text is read, none of a constant
   pub on_text-paced : (s : S) (v : Value) {k : List ℕ → Access (Answer S)} → ((t : List ℕ) → PacedRow p M c d (k t)) → ((t : List ℕ) → PacedRow p M c (suc d) (k t)) → PacedRow p M c d (on_text p s v k)
-  on_text-paced s (value.Int n) r q = paced_done e
-  on_text-paced s (value.Long n) r q = paced_done e
   on_text-paced s value.Null r q = paced_done (e, light)
   on_text-paced s (value.Lit n) r q = r (literal_at p n)
   on_text-paced s (value.Obj o) r q = paced_read tt q
+  on_text-paced s _ r q = paced_done e

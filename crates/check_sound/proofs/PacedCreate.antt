@@ -29,12 +29,7 @@ element_dims (kind.Array d (base.Class c)) n h = by (nat_eq d 1) refl
     by : (b : Bool) → nat_eq d 1 ≡ b → n < dims_of (cond b (kind.Class c) (kind.Array (d - 1) (base.Class c)))
     by true e = absurd (let q : d ≡ 1 = eqb-true d 1 e in omega arith)
     by false e = omega arith
-element_dims (kind.Array d base.Boolean) n h = omega arith
-element_dims (kind.Array d base.Byte) n h = omega arith
-element_dims (kind.Array d base.Char) n h = omega arith
-element_dims (kind.Array d base.Short) n h = omega arith
-element_dims (kind.Array d base.Int) n h = omega arith
-element_dims (kind.Array d base.Long) n h = omega arith
+element_dims _ n h = omega arith
 
 -- what the arrays of these sizes touch
 abbrev nest_touches : ℕ → List ℕ → ℕ
@@ -113,23 +108,15 @@ module _ (p : Program) (lk : Linked p) {M : Limits} where
 
   bad-paced : {B : Type 0} (k : Kind) (s : Entries) (d : ℕ) (vs : List Value) (ns : List ℕ) → CutRow p M B (sized p k s d vs true ns)
   bad-paced k s zero vs ns = paced_done (none, light p lk negative_size_exception (omega arith))
-  bad-paced k s (suc d) [] ns = paced_done none
   bad-paced k s (suc d) (value.Int (pos m) ∷ vs) ns = bad-paced k s d vs (m ∷ ns)
   bad-paced k s (suc d) (value.Int (negsuc m) ∷ vs) ns = bad-paced k s d vs ns
-  bad-paced k s (suc d) (value.Long n ∷ vs) ns = paced_done none
-  bad-paced k s (suc d) (value.Null ∷ vs) ns = paced_done none
-  bad-paced k s (suc d) (value.Lit n ∷ vs) ns = paced_done none
-  bad-paced k s (suc d) (value.Obj o ∷ vs) ns = paced_done none
+  bad-paced k s (suc d) _ ns = paced_done none
 
   sized-paced : {B : Type 0} (k : Kind) (s : Entries) (d : ℕ) (vs : List Value) (ns : List ℕ) → length ns + d ≤ dims_of k → (2 ^ 64 - 2 < sizes_sum (sizes_taken d vs ns) → B) → CutRow p M B (sized p k s d vs false ns)
   sized-paced k s zero vs ns h b = nested-paced k s vs ns (omega arith) b
-  sized-paced k s (suc d) [] ns h b = paced_done none
   sized-paced k s (suc d) (value.Int (pos m) ∷ vs) ns h b = sized-paced k s d vs (m ∷ ns) (omega arith) b
   sized-paced k s (suc d) (value.Int (negsuc m) ∷ vs) ns h b = bad-paced k s d vs ns
-  sized-paced k s (suc d) (value.Long n ∷ vs) ns h b = paced_done none
-  sized-paced k s (suc d) (value.Null ∷ vs) ns h b = paced_done none
-  sized-paced k s (suc d) (value.Lit n ∷ vs) ns h b = paced_done none
-  sized-paced k s (suc d) (value.Obj o ∷ vs) ns h b = paced_done none
+  sized-paced k s (suc d) _ ns h b = paced_done none
 
   pub cut : {B : Type 0} (t : Access (Answer Entries)) → PacedRow p M 4 0 t → CutRow p M B t
   cut {B = B} t h = paced_map (λ c d a q. pays_cut p B c d a q) t 4 0 h

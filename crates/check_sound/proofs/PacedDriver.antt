@@ -2,10 +2,10 @@
 use Rattle.std.proofs.Common.{ℕ, suc, ◌+◌, ◌≤◌, List, [], ◌∷◌, Bool, true, false, cond, Option, Some, None, arith}
 use Rattle.jvm_model.specs.declared.values.{Value.Value, InitState.InitState}
 use Rattle.jvm_model.specs.declared.values.Value.TheVariants as value
-use Rattle.jvm_model.specs.declared.values.InitState.TheVariants.{Idle, Running, Done, Erroneous}
+use Rattle.jvm_model.specs.declared.values.InitState.TheVariants.{Idle, Running, Erroneous}
 use Rattle.jvm_model.specs.declared.values.Location.TheVariants as place
 use Rattle.jvm_model.specs.declared.{library.Native.Native, state.Stage.Stage, program.Program.Program, program.Body.Body}
-use Rattle.jvm_model.specs.declared.outcome.Next.TheVariants.{Go, Fault, Raise, Enter, Leave, Over}
+use Rattle.jvm_model.specs.declared.outcome.Next.TheVariants.{Fault}
 use Rattle.jvm_model.specs.declared.state.Stage.TheVariants.{First, Made, Built, SetUp, Called, Last}
 use Rattle.jvm_model.specs.Access.{Access, done, read, write, bind}
 use Rattle.jvm_model.specs.Builtin.{abstract_method_error, no_class_error, stack_overflow_error}
@@ -38,12 +38,8 @@ module _ (p : Program) (lk : Linked p) {M : Limits} where
     where
       by : (c d : ℕ) (a : Answer Working) → Pays p c d a → PacedStep M c d (after_native p s a)
       by c d stuck_row q = paced_done q
-      by c d (answer Go t) q = paced_done q.0
       by c d (answer (Fault e) t) q = throws-paced c d e (record s { entries = t.entries; own = t.own }) q.0 q.1
-      by c d (answer (Raise v) t) q = paced_done q.0
-      by c d (answer (Enter m) t) q = paced_done q.0
-      by c d (answer Leave t) q = paced_done q.0
-      by c d (answer Over t) q = paced_done q.0
+      by c d _ q = paced_done q.0
 
   -- ---- the driver
 
@@ -68,27 +64,21 @@ module _ (p : Program) (lk : Linked p) {M : Limits} where
 
       looks : (x : InitState) → PacedStep M c (suc d) (bind (begun_at k s.entries x) (once_driven p s t))
       looks Idle = full (is_full s.entries)
-      looks Running = g
-      looks Done = g
       looks Erroneous = throws-paced c (suc d) no_class_error s (omega arith) (light p lk no_class_error (omega arith))
+      looks _ = g
 
       either : (b : Bool) → PacedStep M c d (bind (cond b (done ready) (read (place.Init k) (begun_at k s.entries))) (once_driven p s t))
       either true = f
       either false = paced_read m (λ x. looks x)
 
   message-paced : (c d : ℕ) (o : List ℕ) (k : ℕ) (v : Value) → d + 1 ≤ c → PacedStep M c d (judged_message p o k v)
-  message-paced c d o k (value.Int n) h = paced_done (omega arith)
-  message-paced c d o k (value.Long n) h = paced_done (omega arith)
-  message-paced c d o k value.Null h = paced_done (omega arith)
   message-paced c d o k (value.Lit n) h = paced_spend (paced_done (omega arith))
   message-paced c d o k (value.Obj x) h = paced_read tt (λ t. paced_spend (paced_done (omega arith)))
+  message-paced c d o k _ h = paced_done (omega arith)
 
   value-paced : (c d : ℕ) (o : List ℕ) (v : Value) → d + 3 ≤ c → PacedStep M c d (judged_value p o v)
   value-paced c d o (value.Obj x) h = paced_read tt (λ z. paced_read tt (λ v. message-paced c (suc (suc d)) o (class_of z.kind) v (omega arith)))
-  value-paced c d o (value.Int n) h = paced_done (omega arith)
-  value-paced c d o (value.Long n) h = paced_done (omega arith)
-  value-paced c d o value.Null h = paced_done (omega arith)
-  value-paced c d o (value.Lit n) h = paced_done (omega arith)
+  value-paced c d o _ h = paced_done (omega arith)
 
   judge-paced : (c d : ℕ) (v : Option Value) (s : State) → d + 3 ≤ c → PacedStep M c d (judge p v s)
   unfolding judge

@@ -4,9 +4,9 @@ use Rattle.std.proofs.Common.{◌≡◌, ℕ, zero, suc, ◌+◌, ◌*◌, ◌�
 use Rattle.std.specs.Prelude.{IsSome}
 use Rattle.std.proofs.lemmas.Bool.{cases_lt, or_right}
 use Rattle.jvm_model.specs.declared.values.{Value.Value, InitState.InitState}
-use Rattle.jvm_model.specs.declared.values.InitState.TheVariants.{Idle, Running, Done, Erroneous}
+use Rattle.jvm_model.specs.declared.values.InitState.TheVariants.{Idle, Erroneous}
 use Rattle.jvm_model.specs.declared.program.{Body.Body, Program.Program, ClassRec.ClassRec}
-use Rattle.jvm_model.specs.declared.state.{EntryKind.EntryKind, EntryKind.TheVariants.Absent, EntryKind.TheVariants.InMethod, EntryKind.TheVariants.InClass}
+use Rattle.jvm_model.specs.declared.state.{EntryKind.EntryKind, EntryKind.TheVariants.Absent, EntryKind.TheVariants.InClass}
 use Rattle.jvm_model.specs.{Access.Access, Kinds.class_of, Linked.Linked, Linked.IsInitialiser, Rows.Answer}
 use Rattle.jvm_model.specs.Builtin.{error_class, initializer_error, no_class_error, stack_overflow_error}
 use Rattle.jvm_model.specs.Classes.{no_class, class_at, method_at, member, is_interface, is_below, is_trivial, default_interfaces, layout}
@@ -45,8 +45,7 @@ module _ (p : Program) (lk : Linked p) where
 
 left-pays : (p : Program) (k : EntryKind) → PaysBy p 4 1 (left_at k)
 left-pays p Absent = tt
-left-pays p InMethod = tt
-left-pays p (InClass b) = tt
+left-pays p _ = tt
 
 -- the states of these parts are allowed
 abbrev PartsAllowed : Limits → List Part → Type 0
@@ -54,10 +53,9 @@ PartsAllowed M xs = (c : ℕ) → member c (map (λ (x : Part). x.class) xs) ≡
 
 -- what the entry at the top is about: the states of the class's parts before `<clinit>` is entered, and then that of the class
 abbrev pub EntryAllowed : Program → Limits → EntryKind → ℕ → Type 0
-EntryAllowed p M Absent c = Unit {0}
-EntryAllowed p M InMethod c = Unit {0}
 EntryAllowed p M (InClass false) c = PartsAllowed M (parts_of p c)
 EntryAllowed p M (InClass true) c = M.states c
+EntryAllowed p M _ c = Unit {0}
 
 module _ (M : Limits) where
   first_met : (x : Part) (xs : List Part) → PartsAllowed M (x ∷ xs) → M.states x.class
@@ -81,9 +79,8 @@ module _ (p : Program) (lk : Linked p) {M : Limits} where
 
   looked-paced : (c n d : ℕ) (s : Entries) (rest : Access (Answer Entries)) (st : InitState) → M.states c → d ≤ n + 2 → PacedRow p M 4 d rest → PacedRow p M 4 d (looked_at c n s rest st)
   looked-paced c n d s rest Idle m e r = either (is_full s) (paced_spend (paced_done (omega arith, light p lk stack_overflow_error (omega arith)))) (paced_spend (paced_write m (paced_done (omega arith, tt))))
-  looked-paced c n d s rest Running m e r = r
-  looked-paced c n d s rest Done m e r = r
   looked-paced c n d s rest Erroneous m e r = paced_spend (paced_done (omega arith, light p lk no_class_error (omega arith)))
+  looked-paced c n d s rest _ m e r = r
 
   none-paced : (n d : ℕ) (s : Entries) → d ≤ n + 2 → PacedRow p M 4 d (looks p [] n s)
   none-paced n d s e = starts-paced (class_at p s.top.number).initialiser n d s (has_code p lk s.top.number) (omega arith)
@@ -111,10 +108,9 @@ module _ (p : Program) (lk : Linked p) {M : Limits} where
           kept-paced above (filter (is_kept p) (map shared (default_interfaces p c))) 0 0 s (not (is_trivial p d)) m (omega arith) (shared-paced (default_interfaces p c) 0 1 s rest (omega arith)) (shared-paced (default_interfaces p c) 0 0 s rest (omega arith))
 
   finishing-paced : (k : EntryKind) (s : Entries) → EntryAllowed p M k s.top.number → PacedRow p M 4 0 (finishing k p s)
-  finishing-paced Absent s m = paced_done none
-  finishing-paced InMethod s m = paced_done none
   finishing-paced (InClass false) s m = parts-paced s.top.number s m
   finishing-paced (InClass true) s m = paced_write m (paced_done (one, left-pays p (popped_entry s).top.kind))
+  finishing-paced _ s m = paced_done none
 
   pub finish-paced : (s : Entries) → EntryAllowed p M s.top.kind s.top.number → PacedRow p M 4 0 (row_finish p s)
   unfolding row_finish

@@ -4,7 +4,7 @@ use Rattle.std.specs.Prelude.{codes}
 use Rattle.std.specs.Fmt.{signed_decimal}
 use Rattle.et_base.specs.Quotes.{utf8_of}
 use Rattle.jvm_model.specs.declared.{values.Value.Value, library.Native.Native, outcome.Next.TheVariants.Go, program.Program.Program}
-use Rattle.jvm_model.specs.declared.values.Value.TheVariants.{Int, Long, Null, Lit, Obj}
+use Rattle.jvm_model.specs.declared.values.Value.TheVariants.{Null, Lit, Obj}
 use Rattle.jvm_model.specs.declared.library.Native.TheVariants as native
 use Rattle.jvm_model.specs.{Access.Access, Access.done, Builtin.string_class, Builtin.string_index_exception, Kinds.class_of, Linked.Linked}
 use Rattle.jvm_model.specs.Classes.{blank, instance_head, literal_at}
@@ -47,14 +47,10 @@ text p lk m d n s v h f = on_text-paced p (null_light p lk) (omega arith) s v (�
 
 -- so many touches may still come before a built-in method of the group
 abbrev pub allowance : NativeGroup → ℕ
-allowance of_object = 3
-allowance of_string = 3
-allowance of_builder = 3
 allowance of_system = 4
-allowance of_stream = 3
 allowance of_files = 4
 allowance of_env = 4
-allowance of_throwable = 3
+allowance _ = 3
 
 module _ (p : Program) (lk : Linked p) {M : Limits} (s : Working) where
   -- a new String: its head and its text
@@ -83,11 +79,10 @@ module _ (p : Program) (lk : Linked p) {M : Limits} (s : Working) where
   keeps d n c r v vs h = either (nat_eq c string_class) (object p lk d n (with_operands s vs) r (omega arith) (λ o. sets d n o v vs h)) (went p (omega arith))
 
   keeps_any : (d n : ℕ) (r v : Value) (vs : List Value) → d + 2 ≤ n → PacedRow p M n d (keeps_object p s vs r v)
-  keeps_any d n r (Int i) vs h = paced_done (omega arith)
-  keeps_any d n r (Long i) vs h = paced_done (omega arith)
   keeps_any d n r Null vs h = makes d n (codes "null") r vs (omega arith)
   keeps_any d n r (Lit i) vs h = keeps d n (class_of (constant_kind i)) r (Lit i) vs (omega arith)
   keeps_any d n r (Obj o) vs h = paced_read tt (λ z. keeps (suc d) n (class_of z.kind) r (Obj o) vs (omega arith))
+  keeps_any d n r _ vs h = paced_done (omega arith)
 
   -- ---- String
 
@@ -103,11 +98,10 @@ module _ (p : Program) (lk : Linked p) {M : Limits} (s : Working) where
   compare d n c r v vs h = either (nat_eq c string_class) (text p lk 1 d n s r (omega arith) (λ e t g. text p lk 0 e n s v (omega arith) (λ f u i. paced_spend (went p (omega arith))))) (went p (omega arith))
 
   equals : (d n : ℕ) (r v : Value) (vs : List Value) → d + 3 ≤ n → PacedRow p M n d (string_equals p s vs r v)
-  equals d n r (Int i) vs h = paced_done (omega arith)
-  equals d n r (Long i) vs h = paced_done (omega arith)
   equals d n r Null vs h = went p (omega arith)
   equals d n r (Lit i) vs h = compare d n (class_of (constant_kind i)) r (Lit i) vs (omega arith)
   equals d n r (Obj o) vs h = paced_read tt (λ z. compare (suc d) n (class_of z.kind) r (Obj o) vs (omega arith))
+  equals d n r _ vs h = paced_done (omega arith)
 
   join : (d n : ℕ) (r : Value) (vs : List Value) (t u : List ℕ) → d ≤ n → PacedRow p M n d (joined p s vs r t u)
   join d n r vs t [] h = went p h
@@ -119,11 +113,10 @@ module _ (p : Program) (lk : Linked p) {M : Limits} (s : Working) where
   adds d n u r vs h = object p lk d n (with_operands s vs) r (omega arith) (λ o. paced_read tt (λ t. paced_spend (paced_write tt (went p (omega arith)))))
 
   appends_any : (d n : ℕ) (r v : Value) (vs : List Value) → d + 3 ≤ n → PacedRow p M n d (appends_string p s vs r v)
-  appends_any d n r (Int i) vs h = paced_done (omega arith)
-  appends_any d n r (Long i) vs h = paced_done (omega arith)
   appends_any d n r Null vs h = adds d n (codes "null") r vs (omega arith)
   appends_any d n r (Lit i) vs h = adds d n (literal_at p i) r vs (omega arith)
   appends_any d n r (Obj o) vs h = paced_read tt (λ t. adds (suc d) n t r vs (omega arith))
+  appends_any d n r _ vs h = paced_done (omega arith)
 
   -- ---- texts of arguments
 
@@ -139,11 +132,10 @@ module _ (p : Program) (lk : Linked p) {M : Limits} (s : Working) where
   changes d n name m x (Some t) vs h = paced_spend (paced_write tt (makes_string 0 (suc d) (n + 4 * (length name + (m + (1 + length t)))) t (omega arith) (λ e o g. went p (omega arith))))
 
   prints_any : (d n : ℕ) (end : List ℕ) (v : Value) (vs : List Value) → d + 1 ≤ n → PacedRow p M n d (prints_string p s vs end v)
-  prints_any d n end (Int i) vs h = paced_done (omega arith)
-  prints_any d n end (Long i) vs h = paced_done (omega arith)
   prints_any d n end Null vs h = print d n (codes "null" ++ end) vs (omega arith)
   prints_any d n end (Lit i) vs h = print d n (utf8_of (literal_at p i) ++ end) vs (omega arith)
   prints_any d n end (Obj o) vs h = paced_read tt (λ t. print (suc d) n (utf8_of t ++ end) vs (omega arith))
+  prints_any d n end _ vs h = paced_done (omega arith)
 
   -- ---- the methods by group
 

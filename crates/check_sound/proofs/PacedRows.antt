@@ -5,7 +5,7 @@ use Rattle.std.specs.Ordering.{int_eq}
 use Rattle.jvm_model.specs.declared.values.{Value.Value, Kind.Kind, Head.Head, InitState.InitState}
 use Rattle.jvm_model.specs.declared.values.Value.TheVariants as value
 use Rattle.jvm_model.specs.declared.values.Kind.TheVariants as kind
-use Rattle.jvm_model.specs.declared.values.InitState.TheVariants.{Idle, Running, Done, Erroneous}
+use Rattle.jvm_model.specs.declared.values.InitState.TheVariants.{Idle, Running, Erroneous}
 use Rattle.jvm_model.specs.declared.values.Location.TheVariants as place
 use Rattle.jvm_model.specs.declared.{instr.Op.Op, instr.Conv.Conv, instr.Cell.Cell, instr.Instr.Instr, state.EntryKind.EntryKind}
 use Rattle.jvm_model.specs.declared.instr.Conv.TheVariants as conv
@@ -108,11 +108,8 @@ module _ (p : Program) (lk : Linked p) {M : Limits} where
   by_int x s = pop s.top.stack (λ v vs. pop vs (λ u rest. int v (λ b. long u (λ a. paced_done (none, tt)))))
 
   converted-paced : (x : Conv) (s : Entries) → PacedRow p M 4 0 (converted p x s)
-  converted-paced conv.I2l s = pop s.top.stack (λ v vs. int v (λ a. paced_done (none, tt)))
   converted-paced conv.L2i s = pop s.top.stack (λ v vs. long v (λ a. paced_done (none, tt)))
-  converted-paced conv.I2b s = pop s.top.stack (λ v vs. int v (λ a. paced_done (none, tt)))
-  converted-paced conv.I2c s = pop s.top.stack (λ v vs. int v (λ a. paced_done (none, tt)))
-  converted-paced conv.I2s s = pop s.top.stack (λ v vs. int v (λ a. paced_done (none, tt)))
+  converted-paced _ s = pop s.top.stack (λ v vs. int v (λ a. paced_done (none, tt)))
 
   increased-paced : (n : ℕ) (by : ℤ) (s : Entries) (o : Option Value) → PacedRow p M 4 0 (increased p n by s o)
   increased-paced n by s None = paced_done none
@@ -157,9 +154,8 @@ module _ (p : Program) (lk : Linked p) {M : Limits} where
 
       looks : (x : InitState) → is_trivial p c ≡ false → PacedRow p M 4 1 (bind (begun_at c s x) (once s k))
       looks Idle e = full (is_full s)
-      looks Running e = g e
-      looks Done e = g e
       looks Erroneous e = paced_done (one, light p lk no_class_error (omega arith))
+      looks _ e = g e
 
       by : (b : Bool) → is_trivial p c ≡ b → PacedRow p M 4 0 (bind (cond b (done ready) (read (place.Init c) (begun_at c s))) (once s k))
       by true e = f e
@@ -198,11 +194,10 @@ module _ (p : Program) (lk : Linked p) {M : Limits} where
   range-paced s (negsuc i) n r = paced_done (one, light p lk array_index_exception (omega arith))
 
   checked-paced : (k : Kind) (s : Entries) (v : Value) {t : Access (Answer Entries)} → PacedRow p M 4 1 t → PacedRow p M 4 2 t → PacedRow p M 4 1 (checked p k s v t)
-  checked-paced k s (value.Int n) r q = paced_done one
-  checked-paced k s (value.Long n) r q = paced_done one
   checked-paced k s value.Null r q = r
   checked-paced k s (value.Lit n) r q = either (kind_fits p (constant_kind n) (element_kind k)) r (paced_done (one, light p lk array_store_exception (omega arith)))
   checked-paced k s (value.Obj o) r q = paced_read tt (λ h. either (kind_fits p h.kind (element_kind k)) q (paced_done (two, light p lk array_store_exception (omega arith))))
+  checked-paced k s _ r q = paced_done one
 
   stored_in-paced : (c : Cell) (s : Entries) (o : ℕ) (i : ℤ) (v : Value) (vs : List Value) (h : Head) → PacedRow p M 4 1 (stored_in p c s o i v vs h)
   stored_in-paced c s o i v vs h = array-paced h.kind (range-paced (with_stack s vs) i h.length (λ n. either (holds_references c)
@@ -225,18 +220,16 @@ module _ (p : Program) (lk : Linked p) {M : Limits} where
   cast_to-paced k s v vs x e = either (kind_fits p x k) (paced_done (e, tt)) (paced_done (e, light p lk class_cast_exception (omega arith)))
 
   cast-paced : (k : Kind) (s : Entries) (v : Value) (vs : List Value) → PacedRow p M 4 0 (cast p k s v vs)
-  cast-paced k s (value.Int n) vs = paced_done none
-  cast-paced k s (value.Long n) vs = paced_done none
   cast-paced k s value.Null vs = paced_done (none, tt)
   cast-paced k s (value.Lit n) vs = cast_to-paced k s (value.Lit n) vs (constant_kind n) none
   cast-paced k s (value.Obj o) vs = paced_read tt (λ h. cast_to-paced k s (value.Obj o) vs h.kind one)
+  cast-paced k s _ vs = paced_done none
 
   tested-paced : (k : Kind) (s : Entries) (v : Value) (vs : List Value) → PacedRow p M 4 0 (tested p k s v vs)
-  tested-paced k s (value.Int n) vs = paced_done none
-  tested-paced k s (value.Long n) vs = paced_done none
   tested-paced k s value.Null vs = paced_done (none, tt)
   tested-paced k s (value.Lit n) vs = paced_done (none, tt)
   tested-paced k s (value.Obj o) vs = paced_read tt (λ h. paced_done (one, tt))
+  tested-paced k s _ vs = paced_done none
 
   pub casts-paced : (i : Instr) (s : Entries) → PacedRow p M 4 0 (row_casts p i s)
   unfolding row_casts

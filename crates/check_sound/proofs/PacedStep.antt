@@ -3,9 +3,9 @@ use Rattle.std.proofs.Common.{◌≡◌, ◌⊎◌, ℕ, ◌+◌, ◌-◌, ◌*�
 use Rattle.std.specs.List.{list_all}
 use Rattle.std.proofs.lemmas.Bool.{and_parts, or_cases, eqb-true, not-true}
 use Rattle.jvm_model.specs.declared.{values.Value.Value, library.Native.Native, instr.Instr.Instr, state.Stage.Stage, state.EntryKind.EntryKind}
-use Rattle.jvm_model.specs.declared.outcome.Next.TheVariants.{Go, Fault, Raise, Enter, Leave, Over}
+use Rattle.jvm_model.specs.declared.outcome.Next.TheVariants.{Go, Fault, Enter}
 use Rattle.jvm_model.specs.declared.instr.Instr.TheVariants as form
-use Rattle.jvm_model.specs.declared.state.Stage.TheVariants.{First, Made, Built, SetUp, Called, Last}
+use Rattle.jvm_model.specs.declared.state.Stage.TheVariants.{First}
 use Rattle.jvm_model.specs.declared.state.EntryKind.TheVariants.{Absent, InMethod, InClass}
 use Rattle.jvm_model.specs.{declared.program.Program.Program, declared.program.MethodRec.MethodRec, World.World, Entries.Entries}
 use Rattle.jvm_model.specs.{Initialise.row_finish, Initialise.row_fail, Library.builtin_defs, Library.builtin_methods, Access.Access, Access.bind, Access.run}
@@ -63,11 +63,7 @@ module _ (p : Program) (M : Limits) where
     where
       by : (x : Stage) → s.stage ≡ x → StageAllowed p M x s
       by First e = m (first_class p s) (e, refl)
-      by (Made o) e = tt
-      by (Built o) e = tt
-      by (SetUp o) e = tt
-      by (Called o v) e = tt
-      by (Last v) e = tt
+      by _ e = tt
 
   names_allowed : (s : State) → Allows p M s → IsRunning s → ((c : ℕ) → used_of p (form_at p s.entries.top.number s.entries.top.pc) ≡ Some c → M.states c) → (i : Instr) → form_at p s.entries.top.number s.entries.top.pc ≡ Some i → NamesAllowed p M i
   names_allowed s a r m (form.GetStatic f) e = (a.gets f (r, e), m (field_at p f).class (ap (used_of p) e))
@@ -88,14 +84,12 @@ module _ (p : Program) (lk : Linked p) {M : Limits} {B : Type 0} where
   after-paced s c d stuck_row h = paced_done (inl h)
   after-paced s c d (answer Go t) h = paced_done h
   after-paced s c d (answer (Fault e) t) h = bounded _ c d (throws-paced p lk c d e (with_entries s t) h.0 h.1)
-  after-paced s c d (answer (Raise v) t) h = paced_done (inl h.0)
   after-paced s c d (answer (Enter m) t) h = by (method_at p m).native refl h.1
     where
       by : (o : Option Native) → (method_at p m).native ≡ o → LeavesFor p c d m o → CutStep M B c d (entered p s o t)
       by None e q = paced_done (inl h.0)
       by (Some x) e q = bounded _ c d (native-step-paced p lk c d x (record { entries = t; own = s.own }) s (enough p lk c d m x e q))
-  after-paced s c d (answer Leave t) h = paced_done (inl h.0)
-  after-paced s c d (answer Over t) h = paced_done (inl h.0)
+  after-paced s c d _ h = paced_done (inl h.0)
 
   pub then-paced : (s : State) (t : Access (Answer Entries)) → CutRow p M B t → CutStep M B 4 0 (bind t (after_row p s))
   then-paced s t h = paced_bind M (λ c d a. Cut p B c d a) (λ c d a. Bounded B c d) t (after_row p s) 4 0 h (λ c d a q. after-paced s c d a q)

@@ -57,13 +57,11 @@ pub record OneType (us rest : List ℕ) : Type 0 where
 
 plain_length : (b c : Bool) (n m : ℕ) → b ≡ false → c ≡ false → elim b [ true ↦ suc n | false ↦ elim c [ true ↦ suc m | false ↦ suc zero ] ] ≡ suc zero
 plain_length false false n m e g = refl
-plain_length true c n m e g = absurd cc
-plain_length false true n m e g = absurd cc
+plain_length _ _ n m e g = absurd cc
 
 class_length : (b c : Bool) (n m : ℕ) → b ≡ false → c ≡ true → elim b [ true ↦ suc n | false ↦ elim c [ true ↦ suc m | false ↦ suc zero ] ] ≡ suc m
 class_length false true n m e g = refl
-class_length true c n m e g = absurd cc
-class_length false false n m e g = absurd cc
+class_length _ _ n m e g = absurd cc
 
 array_length : (b c : Bool) (n m : ℕ) → b ≡ true → elim b [ true ↦ suc n | false ↦ elim c [ true ↦ suc m | false ↦ suc zero ] ] ≡ suc n
 array_length true c n m e = refl
@@ -129,9 +127,8 @@ unfolding argument
 read_one so m us rest e = by (nat_lt 255 (so + units_of_type us)) (after_type us) e
   where
     by : (b : Bool) (o : Option (List ℕ)) → if◌then◌else◌ {A = Option (ℕ × List ℕ)} b None (option_map (λ r. (so + units_of_type us, r)) o) ≡ Some (m, rest) → o ≡ Some rest
-    by true o e = absurd cc
-    by false None e = absurd cc
     by false (Some r) e = ap (λ (q : Option (ℕ × List ℕ)). option_map (λ x. x.1) q) e
+    by _ _ e = absurd cc
 
 close_only : (v : ℕ) (vs : List ℕ) → after_close (v ∷ vs) ≡ None → v ≡ 41 → ⊥
 close_only v vs e q = absurd (taken (subst (λ (u : ℕ). after_close (u ∷ vs) ≡ None) q e))
@@ -167,6 +164,5 @@ parameters_formed [] h = tt
 parameters_formed (u ∷ us) h = by (nat_eq u 40) (arguments (length us) 0 us) refl h
   where
     by : (b : Bool) (o : Option (ℕ × List ℕ)) → arguments (length us) 0 us ≡ o → is_some (if b then option_and_then (λ x. if is_return x.1 then Some x.0 else None) o else None) ≡ true → AreTexts (types_in at_type us)
-    by false o q h = absurd cc
-    by true None q h = absurd cc
     by true (Some x) q h = arguments_formed (length us) 0 us x q
+    by _ _ q h = absurd cc

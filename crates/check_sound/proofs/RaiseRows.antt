@@ -32,9 +32,8 @@ pub record Beneath (p : Program) (w : World) (k : EntryKind) (n : ℕ) (f : Entr
 
 tail_distinct : (k : EntryKind) (n : ℕ) (cs : List ℕ) → IsDistinct nat_eq (class_begun (stub k n) ++ cs) → IsDistinct nat_eq cs
 unfolding IsDistinct
-tail_distinct Absent n cs h = h
-tail_distinct InMethod n cs h = h
 tail_distinct (InClass b) n cs h = h.1
+tail_distinct _ n cs h = h
 
 pub beneath : {p : Program} {w : World} {k : EntryKind} {n : ℕ} {f : Entry} {fs : List Entry} → Rest p w k n (f ∷ fs) → Beneath p w k n f fs
 beneath {p = p} {w = w} {k = k} {n = n} {f = f} {fs = fs} r = record {
@@ -62,11 +61,10 @@ raised_below {p = p} {w = w} {k = k} {n = n} v (f ∷ fs) r =
     closed (Some v) f (stands f.kind k b.is).0 (stands f.kind k b.is).1 b.stack b.locals b.rest
   where
     stands : (i j : EntryKind) → IsBelow p w f i (stub k n) j → IsEntry i × IsTop p w (Some v) i f
-    stands InMethod InMethod h = (tt, h.stands)
-    stands InMethod (InClass x) h = (tt, h.stands)
     stands InMethod Absent h = absurd h
     stands (InClass x) j h = (tt, h.0)
     stands Absent j h = absurd h
+    stands InMethod _ h = (tt, h.stands)
 
 -- ---- handlers
 
@@ -88,8 +86,7 @@ catching p b e f c pc to (h ∷ hs) ih ic a q =
   where
     joined : (x y z : Bool) → x ≡ (y && z) → (t : Bool) → (y && (z && t)) ≡ (x && t)
     joined x true true g t = ap (λ k. k && t) (sym g)
-    joined x true false g t = ap (λ k. k && t) (sym g)
-    joined x false z g t = ap (λ k. k && t) (sym g)
+    joined x _ _ g t = ap (λ k. k && t) (sym g)
 
     later : Catching p b e f c to hs → Catching p b e f c to (h ∷ hs)
     later r = record { handler = r.handler; to_is = r.to_is; catches_it = r.catches_it; fits = r.fits; place = r.place; class = r.class; there = or_right (nat_eq h.at r.handler.at) (list_any (λ m. nat_eq m r.handler.at) (map (λ h. h.at) hs)) r.there }
@@ -159,7 +156,4 @@ module _ (p : Program) (ty : IsTyped p) {w : World} {s : Entries} where
   pub raise-typed : (v : Value) → s.top.kind ≡ InMethod → IsThrowable p w v → TypedEntries p w (Some v) s → Tree p (Quiet p) w (row_raise p v s)
   unfolding row_raise
   raise-typed (value.Obj o) k t e = head-typed p (Quiet p) w o t.0 (λ i. handled-typed o (handler_for p s.top.number s.top.pc (class_of (kind_at w o))) refl k t.0 i t.1 e)
-  raise-typed (value.Int n) k t e = absurd t
-  raise-typed (value.Long n) k t e = absurd t
-  raise-typed value.Null k t e = absurd t
-  raise-typed (value.Lit n) k t e = absurd t
+  raise-typed _ k t e = absurd t

@@ -63,10 +63,7 @@ some_types (u ∷ us) h = elim (cases_Bool (nat_eq u 74)) [
 
 const_length : (p : Program) (v : Value) → 1 ≤ length (const_type p v)
 const_length p (value.Int n) = omega arith
-const_length p (value.Long n) = omega arith
-const_length p value.Null = omega arith
-const_length p (value.Lit n) = omega arith
-const_length p (value.Obj n) = omega arith
+const_length p _ = omega arith
 
 -- nothing more, or as much as the instruction gives beyond what it takes
 Grown : StackEffect → Instr → Type 0
@@ -134,9 +131,8 @@ module _ (p : Program) (ty : IsTyped p) (limits : HasStackLimits p) where
   limit_of m b h = subst (λ (o : Option Body). IfSome o (λ b. b.max_stack ≤ most_operands)) h (limits m)
 
   some_result : (rs : List VType) (x : Sort) → SortOf rs (Some x) → 1 ≤ length rs
-  some_result rs sort.Int e = subst (λ (ts : List VType). 1 ≤ length ts) (sym e) (omega arith)
-  some_result rs sort.Long e = subst (λ (ts : List VType). 1 ≤ length ts) (sym e) (omega arith)
   some_result rs sort.Ref e = subst (λ (ts : List VType). 1 ≤ length ts) (sym e.1) (omega arith)
+  some_result rs _ e = subst (λ (ts : List VType). 1 ≤ length ts) (sym e) (omega arith)
 
   return_room : {w : World} (s : Entries) (x : Sort) → Ready p w s (form.Return (Some x)) → (popped_entry s).top.kind ≡ InMethod → length (popped_entry s).top.stack + 1 ≤ most_operands
   unfolding sides

@@ -9,7 +9,7 @@ use Rattle.jvm_model.specs.declared.values.Value.TheVariants as value
 use Rattle.jvm_model.specs.declared.values.Location.TheVariants as place
 use Rattle.jvm_model.specs.declared.state.{EntryKind.EntryKind, EntryKind.TheVariants.Absent, EntryKind.TheVariants.InMethod, EntryKind.TheVariants.InClass}
 use Rattle.jvm_model.specs.declared.{library.Native.Native, outcome.Next.Next, instr.Instr.Instr}
-use Rattle.jvm_model.specs.declared.outcome.Next.TheVariants.{Go, Fault, Raise, Enter, Leave}
+use Rattle.jvm_model.specs.declared.outcome.Next.TheVariants.{Fault, Raise, Enter}
 use Rattle.jvm_model.specs.declared.outcome.Next.TheVariants as next
 use Rattle.jvm_model.specs.declared.program.{Program.Program, Body.Body, Placed.Placed, MethodRec.MethodRec}
 use Rattle.jvm_model.specs.{World.World, World.at, Access.Access, Builtin.throwable_class, Descriptors.parameters, Descriptors.return_type}
@@ -63,11 +63,8 @@ below_same p w a b e k (f ∷ fs) h = (subst (λ (j : EntryKind). IsBelow p w f 
     by InMethod Absent h = absurd h
     by (InClass false) (InClass x) h = (h.0, subst (λ (n : ℕ). IsPushedBy p f (InClass false) (stub (InClass x) n) (InClass x)) e h.1)
     by (InClass true) InMethod h = (h.0, subst (λ (n : ℕ). IsPushedBy p f (InClass true) (stub InMethod n) InMethod) e h.1)
-    by (InClass false) InMethod h = absurd h.1
-    by (InClass false) Absent h = absurd h.1
-    by (InClass true) (InClass x) h = absurd h.1
-    by (InClass true) Absent h = absurd h.1
     by Absent j h = absurd h
+    by _ _ h = absurd h.1
 
 -- ranges in one list and by entries
 module _ (p : Program) (w : World) where
@@ -112,15 +109,7 @@ closed {p = p} {w = w} {fs = fs} raised e i t vs ls r = by e.kind refl i
 
     by : (k : EntryKind) → e.kind ≡ k → IsEntry k → TypedEntries p w raised (record { top = e; below = fs })
     by Absent q i = absurd i
-    by InMethod q i = record {
-      references = subst (λ (es : List Entry). All (IsInRange p w) (flat_map values_of es)) (sym (ap (λ (k : EntryKind). elim k as (λ x. List Entry) [ Absent ↦ fs | InMethod ↦ e ∷ fs | InClass b ↦ e ∷ fs ]) q)) (all_ranged p w (flat_map values_of (e ∷ fs)) (whole_range p w (e ∷ fs) (vs, ls, r.range)));
-      few = subst (λ (es : List Entry). length es ≤ entry_limit) (sym (ap (λ (k : EntryKind). elim k as (λ x. List Entry) [ Absent ↦ fs | InMethod ↦ e ∷ fs | InClass b ↦ e ∷ fs ]) q)) (let f = r.few in omega arith);
-      alone = λ z. absurd (stood z);
-      top = t;
-      below = below_same p w (stub e.kind e.number) e refl refl fs r.each;
-      one_each = subst (λ (es : List Entry). IsDistinct nat_eq (flat_map class_begun es)) (sym (ap (λ (k : EntryKind). elim k as (λ x. List Entry) [ Absent ↦ fs | InMethod ↦ e ∷ fs | InClass b ↦ e ∷ fs ]) q)) r.apart;
-    }
-    by (InClass b) q i = record {
+    by _ q i = record {
       references = subst (λ (es : List Entry). All (IsInRange p w) (flat_map values_of es)) (sym (ap (λ (k : EntryKind). elim k as (λ x. List Entry) [ Absent ↦ fs | InMethod ↦ e ∷ fs | InClass b ↦ e ∷ fs ]) q)) (all_ranged p w (flat_map values_of (e ∷ fs)) (whole_range p w (e ∷ fs) (vs, ls, r.range)));
       few = subst (λ (es : List Entry). length es ≤ entry_limit) (sym (ap (λ (k : EntryKind). elim k as (λ x. List Entry) [ Absent ↦ fs | InMethod ↦ e ∷ fs | InClass b ↦ e ∷ fs ]) q)) (let f = r.few in omega arith);
       alone = λ z. absurd (stood z);
@@ -152,8 +141,7 @@ opened {p = p} {w = w} raised s i t =
   where
     whole : (k : EntryKind) → s.top.kind ≡ k → IsEntry k → all_entries s ≡ s.top ∷ s.below
     whole Absent q i = absurd i
-    whole InMethod q i = ap (λ (k : EntryKind). elim k as (λ x. List Entry) [ Absent ↦ s.below | InMethod ↦ s.top ∷ s.below | InClass b ↦ s.top ∷ s.below ]) q
-    whole (InClass b) q i = ap (λ (k : EntryKind). elim k as (λ x. List Entry) [ Absent ↦ s.below | InMethod ↦ s.top ∷ s.below | InClass b ↦ s.top ∷ s.below ]) q
+    whole _ q i = ap (λ (k : EntryKind). elim k as (λ x. List Entry) [ Absent ↦ s.below | InMethod ↦ s.top ∷ s.below | InClass b ↦ s.top ∷ s.below ]) q
 
 -- which throwable is raised makes no difference
 pub any_raised : (p : Program) (w : World) (a b : Value) (s : Entries) → TypedEntries p w (Some a) s → TypedEntries p w (Some b) s
@@ -161,8 +149,7 @@ any_raised p w a b s t = record { references = t.references; few = t.few; alone 
   where
     by : (k : EntryKind) → IsTop p w (Some a) k s.top → IsTop p w (Some b) k s.top
     by Absent h = h
-    by InMethod h = h
-    by (InClass x) h = h
+    by _ h = h
 
 -- ---- a world that goes on
 
@@ -218,21 +205,19 @@ Enters p w m None s = TypedEntries p w None s
 Enters p w m (Some x) s = NativeCall p w m s
 
 abbrev pub EndsBy : Program → World → Next → Entries → Type 0
-EndsBy p w Go s = TypedEntries p w None s
 EndsBy p w (Fault c) s = IsThrown p c × TypedEntries p w (Some value.Null) s
 EndsBy p w (Raise v) s = IsThrowable p w v × TypedEntries p w (Some v) s
 EndsBy p w (Enter m) s = Enters p w m (method_at p m).native s
-EndsBy p w Leave s = TypedEntries p w None s
 EndsBy p w next.Over s = ⊥
+EndsBy p w _ s = TypedEntries p w None s
 
 -- how a row may end that enters no method
 abbrev pub QuietBy : Program → World → Next → Entries → Type 0
-QuietBy p w Go s = TypedEntries p w None s
 QuietBy p w (Fault c) s = IsThrown p c × TypedEntries p w (Some value.Null) s
 QuietBy p w (Raise v) s = IsThrowable p w v × TypedEntries p w (Some v) s
 QuietBy p w (Enter m) s = ⊥
-QuietBy p w Leave s = TypedEntries p w None s
 QuietBy p w next.Over s = ⊥
+QuietBy p w _ s = TypedEntries p w None s
 
 abbrev pub Quiet : Program → World → Answer Entries → Type 0
 Quiet p w (answer x s) = QuietBy p w x s
@@ -247,7 +232,8 @@ Ends p w stuck_row = ⊥
 abbrev pub Row : Program → World → Access (Answer Entries) → Type 0
 Row p w t = Tree p (Ends p) w t
 
-any_all : (n : ℕ) (ks : List ℕ) (f : ℕ → Bool) → list_any (λ m. nat_eq m n) ks ≡ true → list_all f ks ≡ true → f n ≡ true
+-- what all of a list pass, one of it passes
+pub any_all : (n : ℕ) (ks : List ℕ) (f : ℕ → Bool) → list_any (λ m. nat_eq m n) ks ≡ true → list_all f ks ≡ true → f n ≡ true
 any_all n [] f l h = absurd (cc)
 any_all n (k ∷ ks) f l h = elim (or_cases (nat_eq k n) (list_any (λ m. nat_eq m n) ks) l) [
   | inl q ↦ subst (λ (x : ℕ). f x ≡ true) (eqb-true k n q) (and_parts _ _ h).0

@@ -44,17 +44,11 @@ no_more p w v u vs (t ∷ x ∷ ts) q = q
 
 pub plain_int : {p : Program} {w : World} {e : Environment} (v : Value) → Is p w e Int v → HasPlain p w Int v
 plain_int (value.Int n) h = tt
-plain_int (value.Long n) h = absurd h.type
-plain_int value.Null h = absurd h.type
-plain_int (value.Lit n) h = absurd h.type
-plain_int (value.Obj n) h = absurd h.type
+plain_int _ h = absurd h.type
 
 pub plain_long : {p : Program} {w : World} {e : Environment} (v : Value) → Is p w e Long v → HasPlain p w Long v
 plain_long (value.Long n) h = tt
-plain_long (value.Int n) h = absurd h.type
-plain_long value.Null h = absurd h.type
-plain_long (value.Lit n) h = absurd h.type
-plain_long (value.Obj n) h = absurd h.type
+plain_long _ h = absurd h.type
 
 module _ (p : Program) (ty : IsTyped p) where
   -- the class of a method with code is one

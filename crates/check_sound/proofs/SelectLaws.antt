@@ -1,24 +1,24 @@
 -- What a selected method is: it has the name and descriptor of the one that a call names, and the receiver is an instance of
 -- its class. Where none is selected, a throwable is thrown.
-use Rattle.std.proofs.Common.{◌≡◌, ℕ, zero, suc, ◌≤◌, List, [], ◌∷◌, ◌++◌, length, get_or, filter, Bool, true, false, not, ◌&&◌, ◌||◌, cond, nat_eq, Option, Some, None, refl, sym, ◌∙◌, subst, arith, inl, inr, All}
+use Rattle.std.proofs.Common.{◌≡◌, ℕ, zero, suc, List, [], ◌∷◌, ◌++◌, length, filter, Bool, true, false, not, ◌&&◌, ◌||◌, cond, nat_eq, Option, Some, None, refl, sym, ◌∙◌, ap, subst, arith, inl, inr, All}
 use Rattle.std.specs.Prelude.{flat_map}
 use Rattle.std.specs.{List.find, List.list_any, List.list_all, Str.bytes_eq}
 use Rattle.std.proofs.lemmas.Bool.{cases_lt, and_parts, or_cases, or_left, or_right, eqb-true, eq-eqb, not-true}
 use Rattle.jvm_model.specs.declared.{values.Kind.Kind, program.Program.Program, program.ClassRec.ClassRec}
 use Rattle.jvm_model.specs.declared.values.Kind.TheVariants as kind
-use Rattle.jvm_model.specs.{Builtin.object_class, Builtin.builtin_count, Library.builtin_defs, Library.builtin_classes, Kinds.class_of}
+use Rattle.jvm_model.specs.{Builtin.object_class, Builtin.abstract_method_error, Builtin.class_change_error, Builtin.builtin_count, Library.builtin_defs, Library.builtin_classes, Kinds.class_of}
 use Rattle.jvm_model.specs.Classes.{class_at, method_at, no_class, member, is_static, is_private, is_interface, is_below, upwards, class_bound, lineage_in, own_interfaces, implements, init_name}
 use Rattle.jvm_model.specs.Lookup.{is_method, find_method, find_declared, find_in_object, find_in_interfaces, interface_methods, superinterfaces, pedigree_in, one_or_first, or_else}
 use Rattle.jvm_model.specs.Selection.{Selected, chosen, failing, is_like, is_open_like, declared_in, all_interfaces, candidates, kept_of, has_code, one_with_code, kept_method, or_kept, select, select_virtual, select_interface, named_class, above_or, special_start, special_path, select_special}
 use Rattle.jvm_model.specs.Linked.{Linked, IsClass, IsMethod, IsKind, IsPlainMethod, IsFound, IsFoundIn, is_interface_at}
-use Rattle.std.proofs.lemmas.List.Folds.{list_any-append}
+use Rattle.std.proofs.lemmas.{List.get_or_past, List.Folds.list_any-append, Map.Views.any-filter_same}
 use Rattle.jvm_model.proofs.Interfaces.{member_first, none_listed, member-flat_map, member-first_mentions, reached}
 use Rattle.jvm_model.proofs.{Options.or_else_cases, BuiltinRules.class_keeps}
 use Rattle.jvm_model.proofs.Upwards.{superclass_is, member_class, upwards_step, below_same}
 use Rattle.type_frames.specs.{declared.vtype.VType.TheVariants.Object, Descriptors.name_of, Descriptors.kind_name, Assign.assignable, TypedState.IsInstance}
 use Rattle.et_base.proofs.Texts.{units_true}
 use Rattle.type_frames.proofs.AssignLaws.{assignable_trans}
-use Rattle.check_sound.proofs.{Ready.IsThrown, Thrown.builtin_is, Thrown.abstract_thrown, Thrown.class_change_thrown}
+use Rattle.check_sound.proofs.{Ready.IsThrown, Thrown.builtin_is, Thrown.thrown}
 use Rattle.check_sound.proofs.Instances.{takes_all, instance_itself, below_instance}
 
 -- a method that may run where the method m is called on an instance
@@ -63,24 +63,11 @@ pub found : (f : ℕ → Bool) (xs : List ℕ) (n : ℕ) → find f xs ≡ Some 
 found f [] n e = absurd cc
 found f (x ∷ xs) n e = found_by f x n xs (f x) refl (found f xs n) e
 
-filtered_by : (f : ℕ → Bool) (x n : ℕ) (xs : List ℕ) (b : Bool) → f x ≡ b → (member n (filter f xs) ≡ true → Found f xs n) → member n (cond b (x ∷ filter f xs) (filter f xs)) ≡ true → Found f (x ∷ xs) n
-filtered_by f x n xs true q ih e = elim (or_cases (nat_eq n x) (member n (filter f xs)) e) [
-  | inl r ↦ record { passes = subst (λ (y : ℕ). f y ≡ true) (sym (eqb-true n x r)) q; listed = or_left (nat_eq n x) (member n xs) r }
-  | inr r ↦ (let s = ih r in record { passes = s.passes; listed = or_right (nat_eq n x) (member n xs) s.listed })
-]
-filtered_by f x n xs false q ih e = let s = ih e in record { passes = s.passes; listed = or_right (nat_eq n x) (member n xs) s.listed }
-
 pub filtered : (f : ℕ → Bool) (xs : List ℕ) (n : ℕ) → member n (filter f xs) ≡ true → Found f xs n
-filtered f [] n e = absurd cc
-filtered f (x ∷ xs) n e = filtered_by f x n xs (f x) refl (filtered f xs n) e
+filtered f xs n e = let r = and_parts (f n) (member n xs) (sym (any-filter_same (nat_eq n) f (f n) (λ k q. ap f (sym (eqb-true n k q))) xs) ∙ e) in record { passes = r.0; listed = r.1 }
 
 module _ (p : Program) (lk : Linked p) where
   -- ---- methods and their classes
-
-  no_members : (cs : List ClassRec) (c n : ℕ) → length cs ≤ c → member n (get_or cs c no_class).methods ≡ false
-  no_members [] c n h = refl
-  no_members (x ∷ cs) zero n h = absurd (omega arith)
-  no_members (x ∷ cs) (suc c) n h = no_members cs c n (omega arith)
 
   -- the class declares the method
   pub record Declares (c n : ℕ) : Type 0 where
@@ -95,7 +82,7 @@ module _ (p : Program) (lk : Linked p) where
       method = all_member (λ k. IsMethod p k) (class_at p c).methods n (lk.numbers.classes c h).methods m;
       own = all_member (λ k. (method_at p k).class ≡ c) (class_at p c).methods n (lk.listed.own_methods c h) m;
     }
-    | inr h ↦ absurd (let q : true ≡ false = sym m ∙ no_members p.classes c n h in cc)
+    | inr h ↦ absurd (let q : true ≡ false = sym m ∙ ap (λ (x : ClassRec). member n x.methods) (get_or_past p.classes c no_class h) in cc)
   ]
 
   -- a method of one of these classes
@@ -115,11 +102,6 @@ module _ (p : Program) (lk : Linked p) where
   unfolding builtin_classes builtin_defs
   no_interfaces = refl
 
-  no_entries_past : (cs : List ClassRec) (c n : ℕ) → length cs ≤ c → member n (get_or cs c no_class).interfaces ≡ false
-  no_entries_past [] c n h = refl
-  no_entries_past (x ∷ cs) zero n h = absurd (omega arith)
-  no_entries_past (x ∷ cs) (suc c) n h = no_entries_past cs c n (omega arith)
-
   -- an interface of the program
   pub record IsInterface (i : ℕ) : Type 0 where
     pub is_class : IsClass p i
@@ -135,7 +117,7 @@ module _ (p : Program) (lk : Linked p) where
         interface = all_member (λ k. is_interface_at p k ≡ true) (class_at p c).interfaces i (lk.kinds.classes c (b, h)).interfaces m;
       }
     ]
-    | inr h ↦ absurd (let q : true ≡ false = sym m ∙ no_entries_past p.classes c i h in cc)
+    | inr h ↦ absurd (let q : true ≡ false = sym m ∙ ap (λ (x : ClassRec). member i x.interfaces) (get_or_past p.classes c no_class h) in cc)
   ]
 
   lineage : (k j i : ℕ) → IsInterface j → member i (lineage_in p k j) ≡ true → IsInterface i
@@ -221,9 +203,9 @@ module _ (p : Program) (lk : Linked p) where
   open_like m n h = (and_parts (not (is_private (method_at p n).flags)) _ h).1
 
   one_of : (x : Kind) (m : ℕ) (ms : List ℕ) → ((n : ℕ) → member n ms ≡ true → SelectedOf p m x (chosen n)) → SelectedOf p m x (one_with_code ms)
-  one_of x m [] f = abstract_thrown p lk
+  one_of x m [] f = thrown p lk abstract_method_error refl
   one_of x m (n ∷ []) f = f n (member_first n [])
-  one_of x m (n ∷ k ∷ ks) f = class_change_thrown p lk
+  one_of x m (n ∷ k ∷ ks) f = thrown p lk class_change_error refl
 
   kept : (x : Kind) (m c : ℕ) → SelectedOf p m x (kept_method p m c)
   unfolding kept_method
@@ -251,10 +233,9 @@ module _ (p : Program) (lk : Linked p) where
 
   one_or_first_of : (m : ℕ) (ns ms : List ℕ) → ((n : ℕ) → member n ns ≡ true → member n ms ≡ true) → one_or_first ns ms ≡ Some m → member m ms ≡ true
   one_or_first_of m (n ∷ []) ms h e = let is : n ≡ m = cc in h m (or_left (nat_eq m n) false (eq-eqb m n (sym is)))
-  one_or_first_of m [] [] h e = absurd cc
   one_or_first_of m [] (k ∷ ks) h e = let is : k ≡ m = cc in or_left (nat_eq m k) (member m ks) (eq-eqb m k (sym is))
-  one_or_first_of m (n ∷ o ∷ ns) [] h e = absurd cc
   one_or_first_of m (n ∷ o ∷ ns) (k ∷ ks) h e = let is : k ≡ m = cc in or_left (nat_eq m k) (member m ks) (eq-eqb m k (sym is))
+  one_or_first_of m _ [] h e = absurd cc
 
   in_interfaces : (x : Kind) (m c : ℕ) (name descriptor : List ℕ) → find_in_interfaces p c name descriptor ≡ Some m → IsInstance p x (name_of p (method_at p m).class)
   unfolding find_in_interfaces
@@ -315,7 +296,7 @@ module _ (p : Program) (lk : Linked p) where
       by : (b c : Bool) → SelectedOf p m x (cond b (chosen m) (cond c (select p m (class_of x)) (failing 15)))
       by true c = itself x i m k s h (of_interface i (record { is_class = h; interface = n }) x) f
       by false true = selected x m kx
-      by false false = class_change_thrown p lk
+      by false false = thrown p lk class_change_error refl
 
   -- ---- invokespecial
 
@@ -346,9 +327,8 @@ module _ (p : Program) (lk : Linked p) where
       plain = (named_is named kn, of_named named x (instance_fits x (name_of p current) (kind_name p named) i a))
 
       by : (b : Bool) (o : Option ℕ) → (class_at p current).superclass ≡ o → IsClass p (cond b (above_or o (named_class named)) (named_class named)) × IsInstance p x (name_of p (cond b (above_or o (named_class named)) (named_class named)))
-      by false o e = plain
-      by true None e = plain
       by true (Some d) e = let s = super_of current d h e in (s.0, above x current d h i s.1)
+      by _ _ e = plain
 
   pub selected_special : (current m : ℕ) (named x : Kind) → IsClass p current → IsKind p named → IsKind p x → IsMethod p m → IsPlainMethod p m → bytes_eq (method_at p m).name init_name ≡ false → IsFoundIn p named m
       → assignable p (Object (name_of p current)) (Object (kind_name p named)) ≡ true → IsInstance p x (name_of p current) → SelectedOf p m x (select_special p current (named_class named) m)

@@ -1,13 +1,30 @@
 -- The classes that steps throw by themselves are classes of throwables.
-use Rattle.std.proofs.Common.{◌≡◌, ℕ, ◌<◌, List, [], ◌∷◌, length, get_or, true, nat_eq, Some, refl, sym, ◌∙◌, ap, subst, arith}
+use Rattle.std.proofs.Common.{◌≡◌, ℕ, zero, suc, ◌<◌, List, [], ◌∷◌, length, get_or, Bool, true, false, ◌&&◌, ◌||◌, nat_eq, nat_lt, Option, Some, None, refl, sym, ◌∙◌, ap, subst, arith, inl, inr}
+use Rattle.std.specs.List.{list_all, list_any}
 use Rattle.std.specs.Prelude.{codes}
-use Rattle.std.proofs.lemmas.Bool.{or_right}
+use Rattle.std.proofs.lemmas.Bool.{and_parts, or_cases, or_right, eqb-true, ltb-true}
 use Rattle.jvm_model.specs.declared.program.{Program.Program, ClassRec.ClassRec}
 use Rattle.jvm_model.specs.{Builtin.object_class, Builtin.throwable_class, Builtin.builtin_count, Library.builtin_defs, Library.builtin_classes, Linked.Linked}
 use Rattle.jvm_model.specs.Classes.{no_class, class_at, is_below, upwards, member}
 use Rattle.jvm_model.proofs.{BuiltinRules.enough_classes, BuiltinRules.builtin_class, Upwards.upwards_step, Upwards.upwards_root, Upwards.below_same}
 use Rattle.type_frames.specs.Descriptors.{name_of}
-use Rattle.check_sound.proofs.Ready.{IsThrown}
+use Rattle.check_sound.proofs.Ready.{IsThrown, any_all}
+
+-- the built-in classes below Throwable
+abbrev pub throwables : List ℕ
+throwables = 8 ∷ 9 ∷ 10 ∷ 11 ∷ 12 ∷ 13 ∷ 14 ∷ 15 ∷ 16 ∷ 17 ∷ 18 ∷ 19 ∷ 20 ∷ 21 ∷ 22 ∷ 23 ∷ 24 ∷ 25 ∷ 26 ∷ 27 ∷ 28 ∷ 29 ∷ 30 ∷ 31 ∷ []
+
+abbrev pub is_throwable : ℕ → Bool
+is_throwable c = list_any (λ m. nat_eq m c) throwables
+
+-- a class that comes to Throwable in at most so many steps upwards
+abbrev rises : ℕ → ClassRec → Bool
+rises zero x = false
+rises (suc k) x = elim x.superclass [ None ↦ false | Some d ↦ nat_lt d builtin_count && (nat_eq d throwable_class || rises k (get_or builtin_classes d no_class)) ]
+
+all_rise : list_all (λ c. nat_lt c builtin_count && rises 6 (get_or builtin_classes c no_class)) throwables ≡ true
+unfolding builtin_classes builtin_defs
+all_rise = refl
 
 module _ (p : Program) (lk : Linked p) where
   pub builtin_is : (c : ℕ) → c < builtin_count → c < length p.classes
@@ -23,87 +40,28 @@ module _ (p : Program) (lk : Linked p) where
   unfolding builtin_classes builtin_defs
   object_named = ap (λ (r : ClassRec). r.name) (builtin_class p lk.builtins 0 (omega arith))
 
-  pub above : (c d : ℕ) → c < builtin_count → (get_or builtin_classes c no_class).superclass ≡ Some d → is_below p d throwable_class ≡ true → is_below p c throwable_class ≡ true
+  above : (c d : ℕ) → c < builtin_count → (get_or builtin_classes c no_class).superclass ≡ Some d → is_below p d throwable_class ≡ true → is_below p c throwable_class ≡ true
   unfolding is_below
   above c d h e b =
       let s : (class_at p c).superclass ≡ Some d = ap (λ (x : ClassRec). x.superclass) (builtin_class p lk.builtins c h) ∙ e in
       subst (λ (xs : List ℕ). member throwable_class xs ≡ true) (sym (upwards_step p lk c d (builtin_is c h) s)) (or_right (nat_eq throwable_class c) (member throwable_class (upwards p d)) b)
 
-  error : is_below p 8 throwable_class ≡ true
-  unfolding builtin_classes builtin_defs
-  error = above 8 7 (omega arith) refl (below_same p 7)
+  below_throwable : (k c : ℕ) → c < builtin_count → rises k (get_or builtin_classes c no_class) ≡ true → is_below p c throwable_class ≡ true
+  below_throwable zero c h e = absurd (cc)
+  below_throwable (suc k) c h e = by (get_or builtin_classes c no_class).superclass refl (λ d i z. below_throwable k d i z) e
+    where
+      by : (o : Option ℕ) → (get_or builtin_classes c no_class).superclass ≡ o → ((d : ℕ) → d < builtin_count → rises k (get_or builtin_classes d no_class) ≡ true → is_below p d throwable_class ≡ true)
+          → elim o as (λ x. Bool) [ None ↦ false | Some d ↦ nat_lt d builtin_count && (nat_eq d throwable_class || rises k (get_or builtin_classes d no_class)) ] ≡ true → is_below p c throwable_class ≡ true
+      by None q f e = absurd (cc)
+      by (Some d) q f e =
+          let a = and_parts (nat_lt d builtin_count) (nat_eq d throwable_class || rises k (get_or builtin_classes d no_class)) e in
+          above c d h q (elim (or_cases (nat_eq d throwable_class) (rises k (get_or builtin_classes d no_class)) a.1) [
+            | inl z ↦ subst (λ (y : ℕ). is_below p y throwable_class ≡ true) (sym (eqb-true d throwable_class z)) (below_same p throwable_class)
+            | inr z ↦ f d (ltb-true d builtin_count a.0) z
+          ])
 
-  exception : is_below p 9 throwable_class ≡ true
-  unfolding builtin_classes builtin_defs
-  exception = above 9 7 (omega arith) refl (below_same p 7)
-
-  linkage : is_below p 11 throwable_class ≡ true
-  unfolding builtin_classes builtin_defs
-  linkage = above 11 8 (omega arith) refl error
-
-  machine : is_below p 12 throwable_class ≡ true
-  unfolding builtin_classes builtin_defs
-  machine = above 12 8 (omega arith) refl error
-
-  change : is_below p 15 throwable_class ≡ true
-  unfolding builtin_classes builtin_defs
-  change = above 15 11 (omega arith) refl linkage
-
-  runtime : is_below p 19 throwable_class ≡ true
-  unfolding builtin_classes builtin_defs
-  runtime = above 19 9 (omega arith) refl exception
-
-  index : is_below p 25 throwable_class ≡ true
-  unfolding builtin_classes builtin_defs
-  index = above 25 19 (omega arith) refl runtime
-
-  pub initializer_thrown : IsThrown p 13
-  unfolding builtin_classes builtin_defs
-  initializer_thrown = (builtin_is 13 (omega arith), above 13 11 (omega arith) refl linkage)
-
-  pub no_class_thrown : IsThrown p 14
-  unfolding builtin_classes builtin_defs
-  no_class_thrown = (builtin_is 14 (omega arith), above 14 11 (omega arith) refl linkage)
-
-  pub class_change_thrown : IsThrown p 15
-  class_change_thrown = (builtin_is 15 (omega arith), change)
-
-  pub abstract_thrown : IsThrown p 16
-  unfolding builtin_classes builtin_defs
-  abstract_thrown = (builtin_is 16 (omega arith), above 16 15 (omega arith) refl change)
-
-  pub instantiation_thrown : IsThrown p 17
-  unfolding builtin_classes builtin_defs
-  instantiation_thrown = (builtin_is 17 (omega arith), above 17 15 (omega arith) refl change)
-
-  pub overflow_thrown : IsThrown p 18
-  unfolding builtin_classes builtin_defs
-  overflow_thrown = (builtin_is 18 (omega arith), above 18 12 (omega arith) refl machine)
-
-  pub arithmetic_thrown : IsThrown p 20
-  unfolding builtin_classes builtin_defs
-  arithmetic_thrown = (builtin_is 20 (omega arith), above 20 19 (omega arith) refl runtime)
-
-  pub array_store_thrown : IsThrown p 21
-  unfolding builtin_classes builtin_defs
-  array_store_thrown = (builtin_is 21 (omega arith), above 21 19 (omega arith) refl runtime)
-
-  pub class_cast_thrown : IsThrown p 22
-  unfolding builtin_classes builtin_defs
-  class_cast_thrown = (builtin_is 22 (omega arith), above 22 19 (omega arith) refl runtime)
-
-  pub negative_size_thrown : IsThrown p 23
-  unfolding builtin_classes builtin_defs
-  negative_size_thrown = (builtin_is 23 (omega arith), above 23 19 (omega arith) refl runtime)
-
-  pub null_pointer_thrown : IsThrown p 24
-  unfolding builtin_classes builtin_defs
-  null_pointer_thrown = (builtin_is 24 (omega arith), above 24 19 (omega arith) refl runtime)
-
-  pub array_index_thrown : IsThrown p 29
-  unfolding builtin_classes builtin_defs
-  array_index_thrown = (builtin_is 29 (omega arith), above 29 25 (omega arith) refl index)
-
-  pub string_index_thrown : IsThrown p 30
-  unfolding builtin_classes builtin_defs
-  string_index_thrown = (builtin_is 30 (omega arith), above 30 25 (omega arith) refl index)
+  -- each of them is a class of throwables
+  pub thrown : (c : ℕ) → is_throwable c ≡ true → IsThrown p c
+  thrown c e =
+      let a = and_parts (nat_lt c builtin_count) (rises 6 (get_or builtin_classes c no_class)) (any_all c throwables (λ c. nat_lt c builtin_count && rises 6 (get_or builtin_classes c no_class)) e all_rise) in
+      let h = ltb-true c builtin_count a.0 in (builtin_is c h, below_throwable 6 c h a.1)

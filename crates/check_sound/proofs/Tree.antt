@@ -6,7 +6,7 @@ use Rattle.jvm_model.specs.declared.values.Kind.TheVariants as kind
 use Rattle.jvm_model.specs.declared.values.Location.TheVariants as place
 use Rattle.jvm_model.specs.{declared.program.Program.Program, Classes.field_at, Classes.member, Classes.layout, Linked.IsField, Linked.IsKind, View.keys}
 use Rattle.jvm_model.specs.World.{Object, World, Content, size, at, look, object_at, put, make_object}
-use Rattle.jvm_model.specs.Access.{Access, done, read, write, make, spend, Ran}
+use Rattle.jvm_model.specs.Access.{Access, done, read, write, make, spend}
 use Rattle.type_frames.specs.TypedState.{kind_at, IsDeclared, element_text, TypedWorld}
 
 abbrev pub head_at : World → ℕ → Head
@@ -68,11 +68,9 @@ pub record Alike (u w : World) : Type 0 where
   pub heads : (o : ℕ) → head_at u o ≡ head_at w o
   pub states : (c : ℕ) → at u (place.Init c) ≡ at w (place.Init c)
 
--- What a typed run leaves: each access was of a location that stands, the world is typed, and the answer is good in one
--- with the same heads and states.
-pub record Leaves (p : Program) {A : Type 0} (P : World → A → Type 0) (r : Ran A) : Type 0 where
-  pub sound : r.sound ≡ true
+-- What a typed run leaves: the world is typed, and the answer is good in one with the same heads and states.
+pub record Leaves (p : Program) {A : Type 0} (P : World → A → Type 0) (w : World) (a : A) : Type 0 where
   pub seen : World
-  pub alike : Alike seen r.world
-  pub world : TypedWorld p r.world
-  pub answer : P seen r.value
+  pub alike : Alike seen w
+  pub world : TypedWorld p w
+  pub answer : P seen a

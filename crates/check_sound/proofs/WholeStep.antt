@@ -1,22 +1,22 @@
 -- The whole step of a typed state: its row, what comes after it, and what the run leaves.
-use Rattle.std.proofs.Common.{◌≡◌, ℕ, Option, Some, None, IfSome, refl, sym, ◌∙◌, subst, arith}
+use Rattle.std.proofs.Common.{◌≡◌, ℕ, Option, Some, None, IfSome, refl, sym, subst}
 use Rattle.jvm_model.specs.declared.values.Value.{Value}
 use Rattle.jvm_model.specs.declared.values.Location.TheVariants as place
 use Rattle.jvm_model.specs.declared.state.{EntryKind.EntryKind, EntryKind.TheVariants.Absent, EntryKind.TheVariants.InMethod, EntryKind.TheVariants.InClass}
 use Rattle.jvm_model.specs.declared.{instr.Instr.Instr, library.Native.Native, program.Program.Program}
 use Rattle.jvm_model.specs.declared.instr.Instr.TheVariants as form
 use Rattle.jvm_model.specs.declared.outcome.Next.TheVariants as after
-use Rattle.jvm_model.specs.{World.World, World.size, World.put, World.make_object, Rows.Answer, Rows.answer, Rows.stuck_row, View.IsSafe, View.IsTurn}
-use Rattle.jvm_model.specs.Access.{Access, done, read, write, make, spend, bind, run}
+use Rattle.jvm_model.specs.{World.World, Rows.Answer, Rows.answer, View.IsSafe, View.IsTurn}
+use Rattle.jvm_model.specs.Access.{Access, bind, run}
 use Rattle.jvm_model.specs.{Classes.method_at, Entries.Entries, Natives.row_native, Driver.drive, RowsStatics.row_statics, RowsFields.row_fields}
 use Rattle.jvm_model.specs.{RowsCreate.row_create, RowsArrays.row_arrays, RowsCasts.row_casts, Raising.row_raise, Initialise.row_finish, Initialise.row_fail}
 use Rattle.jvm_model.specs.State.{State, Turn, next, ended, stuck_turn, test_at, with_entries}
 use Rattle.jvm_model.specs.Step.{Group, moves, arith as of_arith, branches, statics, fields, create, arrays, casts, calls, returns, throw, group_of, row_throw, row_of, row, after_native, entered, after_row, row_or_none, row_here, acts, step}
 use Rattle.type_frames.specs.{Typing.IsTyped, TypedState.TypedWorld, TypedState.TypedState, TypedState.IsThrowable}
 use Rattle.check_sound.specs.StepLaw.{StaysTyped}
-use Rattle.check_sound.proofs.Tree.{Tree, typed_done, typed_read, typed_write, typed_mark, typed_make, typed_spend, typed_known, Over, Alike}
-use Rattle.check_sound.proofs.{Grow.over_itself, Grow.alike_over, Grow.throwable_over, TreeRuns.alike_itself, TreeRuns.tree_safe, TreeRuns.tree_leaves}
-use Rattle.check_sound.proofs.{WorldKept.mark_over, WorldKept.make_over, Onward.grows_alike, Onward.entries_grow, MoveRows.moves-typed, ArithRows.arith-typed}
+use Rattle.check_sound.proofs.Tree.{Tree, typed_done, typed_spend, Over, Alike}
+use Rattle.check_sound.proofs.{Grow.alike_over, Grow.throwable_over, TreeRuns.alike_itself, TreeRuns.tree_walk, TreeRuns.bind_over}
+use Rattle.check_sound.proofs.{Onward.grows_alike, Onward.entries_grow, MoveRows.moves-typed, ArithRows.arith-typed}
 use Rattle.check_sound.proofs.Ready.{TypedEntries, NativeCall, Enters, Ends, Quiet, Row, Ready, ready}
 use Rattle.check_sound.proofs.Ends.{Local, TurnsTo, Step, Tested, tested, tested_over, stage_over, raise_typed, goes_typed, throws-typed}
 use Rattle.check_sound.proofs.{BranchRows.branches-typed, CallRows.calls-typed, ReturnRows.returns-typed, RaiseRows.raise-typed}
@@ -32,19 +32,6 @@ pub record Groups (p : Program) : Type 0 where
   pub throw-row : (w : World) (s : Entries) → Ready p w s form.Throw → Row p w (row_throw s)
   pub native-step : (w : World) (x : Native) (m : ℕ) (s : State) (t : Entries) → (method_at p m).native ≡ Some x → s.raised ≡ None → NativeCall p w m t → Tested p w s → Step p w (bind (row_native p x (record { entries = t; own = s.own })) (after_native p s))
   pub drive-step : (w : World) (s : State) → Local p w s → s.entries.top.kind ≡ Absent → Step p w (drive p s)
-
-pub over_then : (u v w : World) → Over u v → Over v w → Over u w
-over_then u v w a b = record { sizes = (let x = a.sizes in let y = b.sizes in omega arith); heads = λ o h. b.heads o (let x = a.sizes in omega arith) ∙ a.heads o h }
-
--- parts put together, the second in a world over the first's
-pub bind_over : (p : Program) {A B : Type 0} (Q : World → A → Type 0) (P : World → B → Type 0) (t : Access A) (k : A → Access B) (u : World) → Tree p Q u t → ((v : World) (a : A) → Over u v → Q v a → Tree p P v (k a)) → Tree p P u (bind t k)
-bind_over p Q P (done a) k u (typed_done q) r = r u a (over_itself u) q
-bind_over p Q P (read l n) k u (typed_read q f) r = typed_read q (λ c h. bind_over p Q P (n c) k u (f c h) r)
-bind_over p Q P (write l c t) k u (typed_write n q g f) r = typed_write n q g (bind_over p Q P t k u f r)
-bind_over p Q P (write (place.Init c) s t) k u (typed_mark h f) r = typed_mark h (bind_over p Q P t k (put u (place.Init c) s) f (λ v a g q. r v a (over_then u (put u (place.Init c) s) v (mark_over p u c s) g) q))
-bind_over p Q P (make x n) k u (typed_make d f) r = typed_make d (bind_over p Q P (n (size u)) k (make_object u x) f (λ v a g q. r v a (over_then u (make_object u x) v (make_over p u x) g) q))
-bind_over p Q P (spend n t) k u (typed_spend f) r = typed_spend (bind_over p Q P t k u f r)
-bind_over p Q P t k u (typed_known o l f) r = typed_known o l (λ i. bind_over p Q P t k u (f i) r)
 
 module _ (p : Program) (ty : IsTyped p) (gs : Groups p) where
   thrown-typed : (w : World) (s : Entries) (i : Instr) → group_of i ≡ throw → Ready p w s i → Row p w (row_throw s)
@@ -73,16 +60,13 @@ module _ (p : Program) (ty : IsTyped p) (gs : Groups p) where
   here-typed w s k t = let r = ready p ty s k t in subst (λ (o : Option Instr). Row p w (row_or_none p o s)) (sym r.1) (row-typed w s r.0 r.2)
 
   quiet-typed : (w : World) (s : State) (a : Answer Entries) → Tested p w s → Quiet p w a → Step p w (after_row p s a)
-  quiet-typed w s stuck_row q h = absurd h
   quiet-typed w s (answer after.Go t) q h = typed_done (goes_typed p w s t h q)
   quiet-typed w s (answer (after.Fault c) t) q h = throws-typed p ty c (with_entries s t) h.0 h.1 (record { test = q.test; stage = q.stage })
   quiet-typed w s (answer (after.Raise v) t) q h = typed_done (raise_typed p w v (with_entries s t) h.0 h.1 (record { test = q.test; stage = q.stage }))
-  quiet-typed w s (answer (after.Enter m) t) q h = absurd h
   quiet-typed w s (answer after.Leave t) q h = typed_done (goes_typed p w s t h q)
-  quiet-typed w s (answer after.Over t) q h = absurd h
+  quiet-typed w s _ q h = absurd h
 
   after-typed : (w : World) (s : State) (a : Answer Entries) → s.raised ≡ None → Tested p w s → Ends p w a → Step p w (after_row p s a)
-  after-typed w s stuck_row n q h = absurd h
   after-typed w s (answer after.Go t) n q h = typed_done (goes_typed p w s t h q)
   after-typed w s (answer (after.Fault c) t) n q h = throws-typed p ty c (with_entries s t) h.0 h.1 (record { test = q.test; stage = q.stage })
   after-typed w s (answer (after.Raise v) t) n q h = typed_done (raise_typed p w v (with_entries s t) h.0 h.1 (record { test = q.test; stage = q.stage }))
@@ -92,7 +76,7 @@ module _ (p : Program) (ty : IsTyped p) (gs : Groups p) where
       by None e h = typed_done (goes_typed p w s t h q)
       by (Some x) e h = gs.native-step w x m s t e n h q
   after-typed w s (answer after.Leave t) n q h = typed_done (goes_typed p w s t h q)
-  after-typed w s (answer after.Over t) n q h = absurd h
+  after-typed w s _ n q h = absurd h
 
   then-typed : (w : World) (s : State) (t : Access (Answer Entries)) → s.raised ≡ None → Local p w s → Row p w t → Step p w (bind t (after_row p s))
   then-typed w s t n h r = bind_over p (Ends p) (TurnsTo p) t (after_row p s) w r (λ v a g e. after-typed v s a n (tested_over p w v g s (tested h)) e)
@@ -134,12 +118,10 @@ module _ (p : Program) (ty : IsTyped p) (gs : Groups p) where
   left u w stuck_turn a t h = absurd h
 
   is_turn : (v : World) (x : Turn) → TurnsTo p v x → IsTurn x
-  is_turn v (next s) h = tt
-  is_turn v (ended x o) h = tt
   is_turn v stuck_turn h = h
+  is_turn v _ h = tt
 
   pub stays_typed : (w : World) (s : State) → TypedState p w s → IsSafe IsTurn (step p s) w × StaysTyped p (run (step p s) w).world (run (step p s) w).value
   stays_typed w s t =
-      let tree = step-typed w s (local_of w s t) in
-      let x = tree_leaves p (TurnsTo p) (step p s) w w (alike_itself w) t.world tree in
-      (tree_safe p (TurnsTo p) IsTurn is_turn (step p s) w w (alike_itself w) t.world tree, left x.seen (run (step p s) w).world (run (step p s) w).value x.alike x.world x.answer)
+      let x = tree_walk p (TurnsTo p) IsTurn is_turn (step p s) w w (alike_itself w) t.world (step-typed w s (local_of w s t)) in
+      (x.0, left x.1.seen (run (step p s) w).world (run (step p s) w).value x.1.alike x.1.world x.1.answer)

@@ -14,7 +14,7 @@ use Rattle.jvm_model.specs.{View.IsSafe, Library.builtin_defs, Library.builtin_c
 use Rattle.jvm_model.specs.Classes.{no_class, no_field, field_at, is_interface}
 use Rattle.jvm_model.specs.Linked.{IsClass, first_or, opens, takes, class_descriptor, is_interface_at}
 use Rattle.jvm_model.specs.State.{State, Turn, next, ended, stuck_turn, started, test_at}
-use Rattle.jvm_model.specs.Suite.{End, finished, stuck, out_of_steps, after_step, whole, tree, opening, Given, given_at, one_test, with_first, runs_on}
+use Rattle.jvm_model.specs.Suite.{End, finished, after_step, whole, tree, opening, Given, given_at, one_test, with_first, runs_on}
 use Rattle.jvm_model.proofs.BuiltinRules.{builtin_class}
 use Rattle.type_frames.specs.declared.vtype.{VType.VType, VType.TheVariants.Object}
 use Rattle.type_frames.specs.{Descriptors.types_of, Descriptors.class_name, Descriptors.is_float, Descriptors.name_of, Typing.IsTyped}
@@ -22,8 +22,8 @@ use Rattle.type_frames.specs.TypedState.{TypedWorld, IsInstance, IsReferenceOf, 
 use Rattle.type_frames.proofs.Started.{started_law}
 use Rattle.et_base.proofs.Texts.{units_true}
 use Rattle.check_sound.specs.TestLaw.{IsEnd}
-use Rattle.check_sound.proofs.TreeRuns.{alike_itself, tree_safe, tree_leaves}
-use Rattle.check_sound.proofs.WholeStep.{Groups, bind_over, step-typed, local_of}
+use Rattle.check_sound.proofs.TreeRuns.{alike_itself, tree_walk, bind_over}
+use Rattle.check_sound.proofs.WholeStep.{Groups, step-typed, local_of}
 
 -- what a test gives is of its run
 pub record IsGivenBy (w : World) (ts : List Touch) (n : ℕ) (g : Given) : Type 0 where
@@ -39,9 +39,7 @@ given_by b true (finished v o) w ts n g q = by (nat_le n b) q
         let z : record { outcome = record { verdict = v; output = o; units = n }; world = w; touches = ts } ≡ g = cc in
         record { world = ap (λ (y : Given). y.world) z; touches = ap (λ (y : Given). y.touches) z; units = ap (λ (y : Given). y.outcome.units) z }
     by false q = absurd (cc)
-given_by b true stuck w ts n g q = absurd (cc)
-given_by b true out_of_steps w ts n g q = absurd (cc)
-given_by b false e w ts n g q = absurd (cc)
+given_by b _ _ w ts n g q = absurd (cc)
 
 module _ (p : Program) (ty : IsTyped p) (gs : Groups p) where
   EndsWell : World → End → Type 0
@@ -61,7 +59,7 @@ module _ (p : Program) (ty : IsTyped p) (gs : Groups p) where
   unfolding tree EndsWell
   test_typed t b w h low high =
       let x = whole-typed (suc b) w (started p t) (local_of p ty gs w (started p t) (started_law p w t h low high)) in
-      (tree_safe p EndsWell IsEnd (λ v a q. q) (whole p (suc b) (started p t)) w w (alike_itself w) h x, (tree_leaves p EndsWell (whole p (suc b) (started p t)) w w (alike_itself w) h x).world)
+      let y = tree_walk p EndsWell IsEnd (λ v a q. q) (whole p (suc b) (started p t)) w w (alike_itself w) h x in (y.0, y.1.world)
 
   pub left_typed : (t b : ℕ) (w : World) (g : Given) → TypedWorld p w → 0 < t → t ≤ length p.tests → one_test p w t b ≡ Some g → TypedWorld p g.world
   unfolding one_test

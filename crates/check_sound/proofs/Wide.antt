@@ -63,9 +63,8 @@ found_wide n (x ∷ gs) (Some (suc i)) g h e = found_wide n gs (Some i) g h.1 e
 
 -- what the rules make of locals has as many
 length_slice_set : {X : Type 0} (xs : List X) (n : ℕ) (x : X) → length (slice_set xs n x) ≡ length xs
-length_slice_set [] n x = refl
-length_slice_set (y ∷ xs) zero x = refl
 length_slice_set (y ∷ xs) (suc n) x = ap suc (length_slice_set xs n x)
+length_slice_set _ _ x = refl
 
 cut_length : (ts : List VType) (n : ℕ) → length (cut_long ts n) ≡ length ts
 cut_length ts zero = refl

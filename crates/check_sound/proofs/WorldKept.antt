@@ -1,7 +1,7 @@
 -- A typed world stays typed over writes and new objects.
 use Rattle.std.proofs.Common.{◌≡◌, ◌≢◌, ℕ, ◌<◌, [], length, true, refl, sym, ◌∙◌, ap, subst, inl, inr, arith, Some}
 use Rattle.std.proofs.{lemmas.Bool.cases_Bool, lemmas.Option.same_Some, Math.Seq.get_or-append_seam}
-use Rattle.jvm_model.specs.declared.values.{Value.Value, Kind.Kind, Head.Head, InitState.InitState, Location.Location}
+use Rattle.jvm_model.specs.declared.values.{Kind.Kind, Head.Head, InitState.InitState, Location.Location}
 use Rattle.jvm_model.specs.declared.values.Location.TheVariants as place
 use Rattle.jvm_model.specs.{declared.program.Program.Program, Classes.field_at, Classes.member, Linked.IsKind, View.Exists, View.keys}
 use Rattle.jvm_model.specs.World.{Content, Object, World, no_object, size, object_at, at, put, make_object, part, same}
@@ -22,12 +22,11 @@ whole p w t = record { there = there; fits = fits }
     there : (l : Location) → IsSpot p w l → Exists w l
     there (place.Static f) i = (t.statics f i).0
     there (place.Init c) i = t.states c i
-    there (place.Head o) i = i
     there (place.Field o f) i = (t.fields o i.0 f i.1 i.2 i.3).0
     there (place.Elem o k) i = (t.elements o i.0 k i.1 i.2 i.3 i.4).0
-    there (place.Text o) i = i
     there (place.File n) i = tt
     there (place.Prop n) i = tt
+    there _ i = i
 
     fits : (l : Location) → IsSpot p w l → FitsSpot p w l (at w l)
     fits (place.Static f) i = (t.statics f i).1
@@ -35,9 +34,7 @@ whole p w t = record { there = there; fits = fits }
     fits (place.Head o) i = (refl, t.kinds o i)
     fits (place.Field o f) i = (t.fields o i.0 f i.1 i.2 i.3).1
     fits (place.Elem o k) i = subst (λ (x : Kind). IsDeclared p w (element_text p x) (at w (place.Elem o k))) (sym i.3) (t.elements o i.0 k i.1 i.2 i.3 i.4).1
-    fits (place.Text o) i = tt
-    fits (place.File n) i = tt
-    fits (place.Prop n) i = tt
+    fits _ i = tt
 
 pub typed_world : (p : Program) (w : World) → Whole p w → TypedWorld p w
 typed_world p w t = record {
@@ -54,8 +51,6 @@ typed_world p w t = record {
 module _ (p : Program) where
   -- a location of a world is one of a world over it
   pub spot_over : (u w : World) → Over u w → (l : Location) → IsSpot p u l → IsSpot p w l
-  spot_over u w g (place.Static f) i = i
-  spot_over u w g (place.Init c) i = i
   spot_over u w g (place.Head o) i = let s = g.sizes in omega arith
   spot_over u w g (place.Field o f) i = let s = g.sizes in let lt = i.1 in (i.0, omega arith, sym (kind_over p u w g o i.1) ∙ i.2, i.3)
   spot_over u w g (place.Elem o k) i = let s = g.sizes in let lt = i.2 in
@@ -63,58 +58,36 @@ module _ (p : Program) where
   spot_over u w g (place.Text o) i = let s = g.sizes in omega arith
   spot_over u w g (place.File n) i = tt
   spot_over u w g (place.Prop n) i = tt
+  spot_over u w g _ i = i
 
   -- a content that is neither a head nor a state keeps its type
   pub plain_over : (u w : World) → Over u w → (l : Location) → IsPlainSpot l → IsSpot p u l → (c : Content l) → FitsSpot p u l c → FitsSpot p w l c
   plain_over u w g (place.Static f) n i v h = declared_over p u w g (field_at p f).descriptor v h
   plain_over u w g (place.Field o f) n i v h = declared_over p u w g (field_at p f).descriptor v h
   plain_over u w g (place.Elem o k) n i v h = declared_over p u w g (element_text p (kind_at w o)) v (subst (λ (x : Kind). IsDeclared p u (element_text p x) v) (kind_over p u w g o i.2) h)
-  plain_over u w g (place.Text o) n i v h = tt
-  plain_over u w g (place.File f) n i v h = tt
-  plain_over u w g (place.Prop f) n i v h = tt
   plain_over u w g (place.Init c) n i v h = absurd n
   plain_over u w g (place.Head o) n i v h = absurd n
+  plain_over u w g _ n i v h = tt
 
   pub fits_alike : (u w : World) → Alike u w → (l : Location) → IsSpot p u l → (c : Content l) → FitsSpot p u l c → FitsSpot p w l c
   fits_alike u w a (place.Init c) i s h = h ∙ a.states c
   fits_alike u w a (place.Head o) i s h = (h.0 ∙ a.heads o, h.1)
-  fits_alike u w a (place.Static f) i v h = plain_over u w (alike_over u w a) (place.Static f) tt i v h
-  fits_alike u w a (place.Field o f) i v h = plain_over u w (alike_over u w a) (place.Field o f) tt i v h
-  fits_alike u w a (place.Elem o k) i v h = plain_over u w (alike_over u w a) (place.Elem o k) tt i v h
-  fits_alike u w a (place.Text o) i v h = tt
-  fits_alike u w a (place.File f) i v h = tt
-  fits_alike u w a (place.Prop f) i v h = tt
+  fits_alike u w a l i v h = plain_over u w (alike_over u w a) l tt i v h
 
   -- what stays at a location stays good
   kept_at : (u w : World) → Over u w → (l : Location) → IsSpot p u l → at w l ≡ at u l → FitsSpot p u l (at u l) → FitsSpot p w l (at w l)
   kept_at u w g (place.Init c) i e h = refl
   kept_at u w g (place.Head o) i e h = (refl, subst (λ (z : Head). IsKind p z.kind) (sym e) h.1)
-  kept_at u w g (place.Static f) i e h = subst (λ (v : Value). FitsSpot p w (place.Static f) v) (sym e) (plain_over u w g (place.Static f) tt i (at u (place.Static f)) h)
-  kept_at u w g (place.Field o f) i e h = subst (λ (v : Value). FitsSpot p w (place.Field o f) v) (sym e) (plain_over u w g (place.Field o f) tt i (at u (place.Field o f)) h)
-  kept_at u w g (place.Elem o k) i e h = subst (λ (v : Value). FitsSpot p w (place.Elem o k) v) (sym e) (plain_over u w g (place.Elem o k) tt i (at u (place.Elem o k)) h)
-  kept_at u w g (place.Text o) i e h = tt
-  kept_at u w g (place.File f) i e h = tt
-  kept_at u w g (place.Prop f) i e h = tt
+  kept_at u w g l i e h = subst (λ (c : Content l). FitsSpot p w l c) (sym e) (plain_over u w g l tt i (at u l) h)
 
   apart : (l : Location) (o : ℕ) → IsPlainSpot l → same (place.Head o) l ≡ true → ⊥
-  apart (place.Init c) o n e = absurd (cc)
   apart (place.Head a) o n e = absurd n
-  apart (place.Static f) o n e = absurd (cc)
-  apart (place.Field a f) o n e = absurd (cc)
-  apart (place.Elem a k) o n e = absurd (cc)
-  apart (place.Text a) o n e = absurd (cc)
-  apart (place.File f) o n e = absurd (cc)
-  apart (place.Prop f) o n e = absurd (cc)
+  apart _ o n e = absurd (cc)
 
   apart_state : (l : Location) (c : ℕ) → IsPlainSpot l → same (place.Init c) l ≡ true → ⊥
   apart_state (place.Init d) c n e = absurd n
   apart_state (place.Head a) c n e = absurd n
-  apart_state (place.Static f) c n e = absurd (cc)
-  apart_state (place.Field a f) c n e = absurd (cc)
-  apart_state (place.Elem a k) c n e = absurd (cc)
-  apart_state (place.Text a) c n e = absurd (cc)
-  apart_state (place.File f) c n e = absurd (cc)
-  apart_state (place.Prop f) c n e = absurd (cc)
+  apart_state _ c n e = absurd (cc)
 
   other : (w : World) (l m : Location) (c : Content l) → (same m l ≡ true → ⊥) → at (put w l c) m ≡ at w m
   other w l m c n = elim (cases_Bool (same m l)) [
@@ -171,8 +144,6 @@ module _ (p : Program) where
 
   -- a place of the older objects
   older : (w : World) (x : Object) (l : Location) → (IsOf l (size w) → ⊥) → IsSpot p (make_object w x) l → IsSpot p w l
-  older w x (place.Static f) n i = i
-  older w x (place.Init c) n i = i
   older w x (place.File f) n i = tt
   older w x (place.Prop f) n i = tt
   older w x (place.Head o) n i = before w x o (λ e. n (ap Some e)) i
@@ -180,6 +151,7 @@ module _ (p : Program) where
   older w x (place.Field o f) n i = let h = before w x o (λ e. n (ap Some e)) i.1 in (i.0, h, kind_over p w (make_object w x) (make_over w x) o h ∙ i.2, i.3)
   older w x (place.Elem o k) n i = let h = before w x o (λ e. n (ap Some e)) i.2 in
       (i.0, i.1, h, kind_over p w (make_object w x) (make_over w x) o h ∙ i.3, subst (λ (m : ℕ). k < m) (ap (λ (z : Head). z.length) ((make_over w x).heads o h)) i.4)
+  older w x _ n i = i
 
   module _ (w : World) (x : Object) (t : TypedWorld p w) (d : IsNew p w x) where
     newest : (o : ℕ) → o ≡ size w → object_at (make_object w x) o ≡ x
@@ -189,8 +161,6 @@ module _ (p : Program) where
     inside o e = let s = size_make w x in omega arith
 
     new_there : (l : Location) → IsOf l (size w) → IsSpot p (make_object w x) l → Exists (make_object w x) l
-    new_there (place.Static f) o i = absurd (cc)
-    new_there (place.Init c) o i = absurd (cc)
     new_there (place.File n) o i = tt
     new_there (place.Prop n) o i = tt
     new_there (place.Head a) o i = inside a (same_Some _ _ o)
@@ -204,13 +174,11 @@ module _ (p : Program) where
         let lt : j < x.head.length = subst (λ (z : Object). j < z.head.length) e i.4 in
         let k = (d.elems i.0 j i.1 (sym (ap (λ (z : Object). z.head.kind) e) ∙ i.3) lt).0 in
         (inside a (same_Some _ _ o), subst (λ (z : Object). j < length z.elems) (sym e) k)
+    new_there _ o i = absurd (cc)
 
     new_fits : (l : Location) → IsOf l (size w) → IsSpot p (make_object w x) l → FitsSpot p (make_object w x) l (part x l)
     new_fits (place.Static f) o i = absurd (cc)
     new_fits (place.Init c) o i = absurd (cc)
-    new_fits (place.File n) o i = tt
-    new_fits (place.Prop n) o i = tt
-    new_fits (place.Text a) o i = tt
     new_fits (place.Head a) o i = (sym (ap (λ (z : Object). z.head) (newest a (same_Some _ _ o))), d.is_kind)
     new_fits (place.Field a f) o i =
         let e = newest a (same_Some _ _ o) in
@@ -220,6 +188,7 @@ module _ (p : Program) where
         let lt : j < x.head.length = subst (λ (z : Object). j < z.head.length) e i.4 in
         subst (λ (z : Object). IsDeclared p (make_object w x) (element_text p z.head.kind) (part x (place.Elem a j))) (sym e)
         (declared_over p w (make_object w x) (make_over w x) (element_text p x.head.kind) (part x (place.Elem a j)) (d.elems i.0 j i.1 (sym (ap (λ (z : Object). z.head.kind) e) ∙ i.3) lt).1)
+    new_fits _ o i = tt
 
     fits_new : (l : Location) → IsOf l (size w) → IsSpot p (make_object w x) l → FitsSpot p (make_object w x) l (at (make_object w x) l)
     fits_new l o i = subst (λ (c : Content l). FitsSpot p (make_object w x) l c) (sym (at_make_new w x l o)) (new_fits l o i)
