@@ -6,7 +6,7 @@ use Rattle.jvm_model.specs.{declared.values.Value.Value, declared.program.Progra
 use Rattle.jvm_model.specs.declared.values.Value.TheVariants as value
 use Rattle.jvm_model.specs.{Descriptors.parameters, Linked.IsMethod, Entries.slots_of, Entries.filled, Entries.frame_of}
 use Rattle.type_frames.specs.declared.{vtype.VType.VType, stack_effect.OperandConstraint.OperandConstraint}
-use Rattle.type_frames.specs.declared.vtype.VType.TheVariants.{Top, Int, Long, Null, Object}
+use Rattle.type_frames.specs.declared.vtype.VType.TheVariants.{Top, Int, Long, Object}
 use Rattle.type_frames.specs.declared.stack_effect.OperandConstraint.TheVariants.{Fits, Half, Never}
 use Rattle.type_frames.specs.{Frames.spread, Frames.padded, Descriptors.types_of, Descriptors.class_name, Given.entry_types, Given.given_frames}
 use Rattle.type_frames.specs.{Environment.Environment, Environment.environment_of, StackEffect.needs_of, Rules.opening, Rules.meet_all, Typing.IsTyped}

@@ -10,7 +10,7 @@ use Rattle.jvm_model.specs.declared.instr.Instr.TheVariants as form
 use Rattle.jvm_model.specs.{declared.program.Placed.Placed, World.World, Linked.Linked, Linked.IsClass, Narrow.narrow, Narrow.narrowed}
 use Rattle.jvm_model.specs.Classes.{method_at, init_name, is_below}
 use Rattle.type_frames.specs.declared.{vtype.VType.VType, stack_effect.OperandConstraint.OperandConstraint, stack_effect.OperandConstraint.TheVariants.Raw}
-use Rattle.type_frames.specs.declared.vtype.VType.TheVariants.{Top, Int, Long, Null, Object, UninitThis, Uninit}
+use Rattle.type_frames.specs.declared.vtype.VType.TheVariants.{Top, Int, Long, Object, UninitThis, Uninit}
 use Rattle.type_frames.specs.{declared.stack_effect.StackEffect.StackEffect, Frames.Slots, Frames.same, Frames.places_of, Frames.spread}
 use Rattle.type_frames.specs.{Rules.meets, Rules.meet_all, Rules.turned, Rules.after, Descriptors.name_of, Environment.Environment, Environment.made_at}
 use Rattle.type_frames.specs.StackEffect.{sides, place_of, on_stack, argument_needs, result_types, call_sides, is_that, is_start, started, init_sides, special_sides, special_need, is_raw}

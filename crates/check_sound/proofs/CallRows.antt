@@ -21,7 +21,7 @@ use Rattle.jvm_model.specs.Linked.{Linked, IsClass, IsMethod, IsKind, IsFoundIn}
 use Rattle.jvm_model.specs.RowsCalls.{enters_native, calls, calls_selected, argument_count, on_receiver, receiver, call_virtual, call_interface, call_special, row_calls}
 use Rattle.jvm_model.specs.Step.{group_of, calls as of_calls}
 use Rattle.type_frames.specs.declared.{vtype.VType.VType, stack_effect.OperandConstraint.OperandConstraint}
-use Rattle.type_frames.specs.declared.vtype.VType.TheVariants.{Top, Long, Null, Object, UninitThis, Uninit}
+use Rattle.type_frames.specs.declared.vtype.VType.TheVariants.{Top, Object, UninitThis, Uninit}
 use Rattle.type_frames.specs.declared.stack_effect.OperandConstraint.TheVariants.{Fits, Raw, Never}
 use Rattle.type_frames.specs.{declared.stack_effect.StackEffect.StackEffect, Frames.spread, Frames.places_of, Environment.Environment, Environment.made_at}
 use Rattle.type_frames.specs.{Assign.assignable, Rules.meets, Rules.turned, Descriptors.types_of, Descriptors.name_of, Descriptors.kind_name}

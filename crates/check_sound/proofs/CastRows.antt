@@ -1,8 +1,7 @@
 -- The rows of checkcast and instanceof, and athrow's.
-use Rattle.std.proofs.Common.{◌≡◌, ℕ, List, [], ◌∷◌, true, refl, sym, subst, arith}
+use Rattle.std.proofs.Common.{◌≡◌, ℕ, List, ◌∷◌, true, refl, sym, subst, arith}
 use Rattle.jvm_model.specs.declared.{values.Value.Value, values.Kind.Kind, instr.Instr.Instr, program.Program.Program, outcome.Next.TheVariants.Raise}
 use Rattle.jvm_model.specs.declared.values.Value.TheVariants as value
-use Rattle.jvm_model.specs.declared.values.Kind.TheVariants as kind
 use Rattle.jvm_model.specs.declared.instr.Instr.TheVariants as form
 use Rattle.jvm_model.specs.{World.World, Entries.Entries, Kinds.kind_fits, Kinds.class_of}
 use Rattle.jvm_model.specs.{Builtin.object_class, Builtin.throwable_class, Builtin.class_cast_exception, Builtin.null_pointer_exception, Classes.is_below}

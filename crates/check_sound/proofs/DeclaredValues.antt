@@ -8,7 +8,7 @@ use Rattle.jvm_model.specs.declared.values.Value.TheVariants as value
 use Rattle.jvm_model.specs.{World.World, Access.Access, Classes.member, Narrow.narrow, Narrow.narrowed, Rows.Answer, Rows.popping, Linked.fits_int}
 use Rattle.jvm_model.proofs.NarrowedFits.{narrowed_fits, smalls}
 use Rattle.type_frames.specs.declared.{vtype.VType.VType, stack_effect.OperandConstraint.OperandConstraint}
-use Rattle.type_frames.specs.declared.vtype.VType.TheVariants.{Top, Int, Long, Null, Object}
+use Rattle.type_frames.specs.declared.vtype.VType.TheVariants.{Top, Int, Long, Object}
 use Rattle.type_frames.specs.{Environment.Environment, Descriptors.types_of, Descriptors.class_name, StackEffect.needs_of, Typing.IsTyped}
 use Rattle.type_frames.specs.TypedState.{IsInRange, RefersTo, IsReferenceOf, IsDeclared}
 use Rattle.check_sound.proofs.{Tree.Tree, ParameterTexts.one_type, Operands.Operands, Ready.HasPlain, CallEffects.Result, ParameterTexts.IsText}

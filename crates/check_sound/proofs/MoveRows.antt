@@ -16,7 +16,7 @@ use Rattle.jvm_model.specs.declared.instr.Instr.TheVariants as form
 use Rattle.jvm_model.specs.declared.instr.Sort.TheVariants as sort
 use Rattle.jvm_model.specs.RowsMoves.{row_moves, is_long, loaded, stored}
 use Rattle.type_frames.specs.{declared.vtype.VType.VType, Descriptors.name_of, Environment.Environment, Frames.same, Frames.top_of, Typing.IsTyped}
-use Rattle.type_frames.specs.declared.vtype.VType.TheVariants.{Top, Int, Long, Null}
+use Rattle.type_frames.specs.declared.vtype.VType.TheVariants.{Top, Int, Long}
 use Rattle.type_frames.specs.StackEffect.{sides, two, long_need, setting, reading}
 use Rattle.check_sound.proofs.Tree.{typed_done}
 use Rattle.check_sound.proofs.Held.{Is, is_fits, Held, Locals, IsShort, on_top, int_on, long_on, long_top}

@@ -8,7 +8,7 @@ use Rattle.jvm_model.specs.{World.World, World.size, Access.Access, Access.read,
 use Rattle.jvm_model.specs.Linked.{Linked, IsKind}
 use Rattle.jvm_model.specs.Rows.{Answer, answer, popping, on_int, on_long, on_object, on_reference, with_kind, on_text, constant_kind}
 use Rattle.type_frames.specs.{declared.vtype.VType.VType, declared.stack_effect.OperandConstraint.OperandConstraint, Environment.Environment}
-use Rattle.type_frames.specs.declared.vtype.VType.TheVariants.{Top, Int, Long, Null}
+use Rattle.type_frames.specs.declared.vtype.VType.TheVariants.{Top, Int, Long}
 use Rattle.type_frames.specs.declared.stack_effect.OperandConstraint.TheVariants.{Fits, Half}
 use Rattle.type_frames.specs.{Rules.meets, Rules.meet_all, TypedState.kind_at, TypedState.IsInstance, TypedState.RefersTo, TypedState.HaveStackTypes}
 use Rattle.check_sound.proofs.{Tree.head_at, Tree.Tree, Tree.typed_done, Tree.typed_read, Held.Is, Held.Held, Held.IsShort, Held.is_fits}

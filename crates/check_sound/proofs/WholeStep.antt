@@ -1,7 +1,6 @@
 -- The whole step of a typed state: its row, what comes after it, and what the run leaves.
 use Rattle.std.proofs.Common.{◌≡◌, ℕ, Option, Some, None, IfSome, refl, sym, subst}
 use Rattle.jvm_model.specs.declared.values.Value.{Value}
-use Rattle.jvm_model.specs.declared.values.Location.TheVariants as place
 use Rattle.jvm_model.specs.declared.state.{EntryKind.EntryKind, EntryKind.TheVariants.Absent, EntryKind.TheVariants.InMethod, EntryKind.TheVariants.InClass}
 use Rattle.jvm_model.specs.declared.{instr.Instr.Instr, library.Native.Native, program.Program.Program}
 use Rattle.jvm_model.specs.declared.instr.Instr.TheVariants as form
