@@ -128,12 +128,7 @@ module _ (p : Program) (R : (L : Location) → Content L → Content L → Type 
     unfolding opening quiet
     start_alike (place.Static f) c = opens_with f ∙ (sym (opens_alike f (λ h. c (h, all_idle p (field_at p f).class))) ∙ sym (get_or-map (λ (x : FieldRec). x.opening) (quiet p).fields f no_field))
     start_alike (place.Init d) c = all_idle p d ∙ sym (all_idle (quiet p) d)
-    start_alike (place.Head o) c = refl
-    start_alike (place.Field o f) c = refl
-    start_alike (place.Elem o i) c = refl
-    start_alike (place.Text o) c = refl
-    start_alike (place.File n) c = refl
-    start_alike (place.Prop n) c = refl
+    start_alike _ c = refl
 
     pub at_start : Beside (opening p) (opening (quiet p))
     unfolding opening

@@ -86,13 +86,8 @@ module _ (p : Program) where
   is_field f = λ i. f < field_count p i
 
   is_base : (b : Base) → IsBase (quiet p) b ≡ IsBase p b
-  is_base base.Boolean = refl
-  is_base base.Byte = refl
-  is_base base.Char = refl
-  is_base base.Short = refl
-  is_base base.Int = refl
-  is_base base.Long = refl
   is_base (base.Class c) = is_class c
+  is_base _ = refl
 
   is_kind : (k : Kind) → IsKind (quiet p) k ≡ IsKind p k
   is_kind (kind.Class c) = is_class c
@@ -105,10 +100,7 @@ module _ (p : Program) where
   is_constant : (v : Value) → NamesForm (quiet p) (form.Const v) ≡ NamesForm p (form.Const v)
   unfolding quiet
   is_constant (value.Int n) = refl
-  is_constant (value.Long n) = refl
-  is_constant value.Null = refl
-  is_constant (value.Lit n) = refl
-  is_constant (value.Obj o) = refl
+  is_constant _ = refl
 
   names_form : (x : Instr) → NamesForm (quiet p) x ≡ NamesForm p x
   unfolding quiet
@@ -119,7 +111,6 @@ module _ (p : Program) where
   names_form (form.PutField c f) = λ i. is_class c i × is_field f i
   names_form (form.InvokeVirtual k m) = λ i. is_kind k i × IsMethod p m
   names_form (form.InvokeSpecial k m) = λ i. is_kind k i × IsMethod p m
-  names_form (form.InvokeStatic m) = refl
   names_form (form.InvokeInterface c m) = λ i. is_class c i × IsMethod p m
   names_form (form.New c) = is_class c
   names_form (form.NewArray k) = is_array k

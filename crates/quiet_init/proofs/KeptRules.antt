@@ -13,10 +13,10 @@ use Rattle.jvm_model.specs.declared.values.Value.TheVariants as value
 use Rattle.jvm_model.specs.{Builtin.object_class, Builtin.string_class, Builtin.throwable_class, Descriptors.parameters, Descriptors.return_type}
 use Rattle.jvm_model.specs.Classes.{no_class, class_at, field_at, method_at, is_interface, is_static, init_name}
 use Rattle.type_frames.specs.declared.stack_effect.{OperandConstraint.OperandConstraint, Reading.Reading, StackEffect.StackEffect}
-use Rattle.type_frames.specs.declared.stack_effect.OperandConstraint.TheVariants.{Fits, One, Half, Ref, Raw, Small, Array, Never}
+use Rattle.type_frames.specs.declared.stack_effect.OperandConstraint.TheVariants.{Fits, Raw, Never}
 use Rattle.type_frames.specs.declared.stack_effect.Substitution.TheVariants as turn
 use Rattle.type_frames.specs.declared.vtype.{Frame.Frame, VType.VType}
-use Rattle.type_frames.specs.declared.vtype.VType.TheVariants.{Top, Int, Long, Null, Object, UninitThis, Uninit}
+use Rattle.type_frames.specs.declared.vtype.VType.TheVariants.{Top, Int, Object, UninitThis}
 use Rattle.type_frames.specs.Assign.{class_named, takes_any, extends, class_fits, element_fits, is_array, object_fits, assignable}
 use Rattle.type_frames.specs.Descriptors.{class_name, types_of, base_text, kind_name}
 use Rattle.type_frames.specs.Environment.{Environment, environment_of, given_at, leads}
@@ -59,12 +59,11 @@ module _ (p : Program) where
   class_fits_kept a b = λ k. bytes_eq a b || (takes_any_kept b k || extends_kept a b k)
 
   element_fits_kept : (a b : List ℕ) → element_fits (quiet p) a b ≡ element_fits p a b
-  element_fits_kept [] b = refl
-  element_fits_kept (u ∷ us) [] = refl
   element_fits_kept (u ∷ us) (w ∷ ws) = λ k. elim (nat_eq w 76) as (λ x. Bool) [
     | true ↦ elim (nat_eq u 76) as (λ x. Bool) [ true ↦ class_fits_kept (class_name us) (class_name ws) k | false ↦ nat_eq u 91 && takes_any_kept (class_name ws) k ]
     | false ↦ elim (nat_eq w 91) as (λ x. Bool) [ true ↦ nat_eq u 91 && element_fits_kept us ws k | false ↦ nat_eq u w ]
   ]
+  element_fits_kept _ _ = refl
 
   object_fits_kept : (a b : List ℕ) → object_fits (quiet p) a b ≡ object_fits p a b
   unfolding object_fits
@@ -74,22 +73,12 @@ module _ (p : Program) where
   ]
 
   object_kept : (a : List ℕ) (u : VType) → assignable (quiet p) (Object a) u ≡ assignable p (Object a) u
-  object_kept a Top = refl
-  object_kept a Int = refl
-  object_kept a Long = refl
-  object_kept a Null = refl
   object_kept a (Object b) = object_fits_kept a b
-  object_kept a UninitThis = refl
-  object_kept a (Uninit n) = refl
+  object_kept a _ = refl
 
   assignable_kept : (t u : VType) → assignable (quiet p) t u ≡ assignable p t u
-  assignable_kept Top Top = refl
-  assignable_kept Int Top = refl
-  assignable_kept Long Top = refl
-  assignable_kept Null Top = refl
-  assignable_kept UninitThis Top = refl
-  assignable_kept (Uninit a) Top = refl
   assignable_kept (Object a) u = object_kept a u
+  assignable_kept _ Top = refl
   assignable_kept _ _ = refl
 
   -- ---- the frames that stack maps give
@@ -114,61 +103,35 @@ module _ (p : Program) where
   -- ---- what instructions need and leave
 
   base_text_kept : (b : Base) → base_text (quiet p) b ≡ base_text p b
-  base_text_kept base.Boolean = refl
-  base_text_kept base.Byte = refl
-  base_text_kept base.Char = refl
-  base_text_kept base.Short = refl
-  base_text_kept base.Int = refl
-  base_text_kept base.Long = refl
   base_text_kept (base.Class c) = λ i. 76 ∷ (names_kept p c i ++ 59 ∷ [])
+  base_text_kept _ = refl
 
   kind_name_kept : (k : Kind) → kind_name (quiet p) k ≡ kind_name p k
   kind_name_kept (kind.Class c) = names_kept p c
   kind_name_kept (kind.Array dims b) = λ i. replicate dims 91 ++ base_text_kept b i
 
   const_kept : (v : Value) → const_type (quiet p) v ≡ const_type p v
-  const_kept (value.Int n) = refl
-  const_kept (value.Long n) = refl
-  const_kept value.Null = refl
   const_kept (value.Lit n) = λ i. Object (names_kept p string_class i) ∷ []
-  const_kept (value.Obj o) = refl
+  const_kept _ = refl
 
   array_need_kept : (x : Cell) → array_need (quiet p) x ≡ array_need p x
-  array_need_kept cell.Int = refl
-  array_need_kept cell.Long = refl
   array_need_kept cell.Ref = λ i. Fits (Object (91 ∷ 76 ∷ (names_kept p object_class i ++ 59 ∷ [])))
-  array_need_kept cell.Byte = refl
-  array_need_kept cell.Char = refl
-  array_need_kept cell.Short = refl
+  array_need_kept _ = refl
 
   stored_kept : (x : Cell) → stored (quiet p) x ≡ stored p x
-  stored_kept cell.Int = refl
-  stored_kept cell.Long = refl
   stored_kept cell.Ref = λ i. Fits (Object (names_kept p object_class i)) ∷ []
-  stored_kept cell.Byte = refl
-  stored_kept cell.Char = refl
-  stored_kept cell.Short = refl
+  stored_kept _ = refl
 
   special_need_kept : (e : Environment) (named : Kind) → special_need (quiet p) e named ≡ special_need p e named
   special_need_kept e named = λ i. cond (assignable_kept (Object (names_kept p e.class i)) (Object (kind_name_kept named i)) i) (Fits (Object (names_kept p e.class i))) Never
 
   is_start_kept : (e : Environment) (c : ℕ) (t : VType) → is_start (quiet p) e c t ≡ is_start p e c t
-  is_start_kept e c Top = refl
-  is_start_kept e c Int = refl
-  is_start_kept e c Long = refl
-  is_start_kept e c Null = refl
-  is_start_kept e c (Object a) = refl
   is_start_kept e c UninitThis = λ i. nat_eq c e.class || is_that c (above_kept p e.class i)
-  is_start_kept e c (Uninit n) = refl
+  is_start_kept e c _ = refl
 
   started_kept : (e : Environment) (c : ℕ) (t : VType) → started (quiet p) e c t ≡ started p e c t
-  started_kept e c Top = λ i. Object (names_kept p c i)
-  started_kept e c Int = λ i. Object (names_kept p c i)
-  started_kept e c Long = λ i. Object (names_kept p c i)
-  started_kept e c Null = λ i. Object (names_kept p c i)
-  started_kept e c (Object a) = λ i. Object (names_kept p c i)
   started_kept e c UninitThis = λ i. Object (names_kept p e.class i)
-  started_kept e c (Uninit n) = λ i. Object (names_kept p c i)
+  started_kept e c _ = λ i. Object (names_kept p c i)
 
   init_kept : (e : Environment) (f : Slots) (m : MethodRec) (t : VType) → init_sides (quiet p) e f m t ≡ init_sides p e f m t
   init_kept e f m t = λ i. record (plain (argument_needs m.descriptor ++ Raw ∷ []) (result_types m.descriptor)) { turn = turn.All t (started_kept e m.class t i); starts_well = is_start_kept e m.class t i }
@@ -186,67 +149,32 @@ module _ (p : Program) where
 
   sides_kept : (e : Environment) (pc : ℕ) (f : Slots) (x : Instr) → sides (quiet p) e pc f x ≡ sides p e pc f x
   unfolding sides quiet
-  sides_kept e pc f form.Nop = refl
   sides_kept e pc f (form.Const v) = λ i. plain [] (const_kept v i)
-  sides_kept e pc f (form.Load x n) = refl
-  sides_kept e pc f (form.Store x n) = refl
   sides_kept e pc f (form.ArrayLoad x) = λ i. plain (Fits Int ∷ array_need_kept x i ∷ []) (loaded f x)
   sides_kept e pc f (form.ArrayStore x) = λ i. plain (stored_kept x i ++ (Fits Int ∷ array_need_kept x i ∷ [])) []
-  sides_kept e pc f form.Pop = refl
-  sides_kept e pc f form.Pop2 = refl
-  sides_kept e pc f form.Dup = refl
-  sides_kept e pc f form.DupX1 = refl
-  sides_kept e pc f form.DupX2 = refl
-  sides_kept e pc f form.Dup2 = refl
-  sides_kept e pc f form.Dup2X1 = refl
-  sides_kept e pc f form.Dup2X2 = refl
-  sides_kept e pc f form.Swap = refl
-  sides_kept e pc f (form.Binary x wide) = refl
-  sides_kept e pc f (form.Neg wide) = refl
-  sides_kept e pc f (form.Inc n by) = refl
-  sides_kept e pc f (form.Convert x) = refl
-  sides_kept e pc f form.Compare = refl
-  sides_kept e pc f (form.IfZero test to) = refl
-  sides_kept e pc f (form.IfInts test to) = refl
-  sides_kept e pc f (form.IfRefs equal to) = refl
-  sides_kept e pc f (form.IfNull null to) = refl
-  sides_kept e pc f (form.Goto to) = refl
-  sides_kept e pc f (form.Table low targets other) = refl
-  sides_kept e pc f (form.Lookup pairs other) = refl
-  sides_kept e pc f (form.Return x) = refl
   sides_kept e pc f (form.GetStatic n) = λ i. plain [] (on_stack (types_of (descriptors_kept p n i)))
   sides_kept e pc f (form.PutStatic n) = λ i. plain (needs_of (descriptors_kept p n i)) []
   sides_kept e pc f (form.GetField c n) = λ i. plain (Fits (Object (names_kept p c i)) ∷ []) (on_stack (types_of (descriptors_kept p n i)))
   sides_kept e pc f (form.PutField c n) = put_field_kept e f c n
   sides_kept e pc f (form.InvokeVirtual k n) = λ i. call_sides (method_at p n) (Fits (Object (kind_name_kept k i)) ∷ [])
   sides_kept e pc f (form.InvokeSpecial k n) = special_kept e f k (method_at p n)
-  sides_kept e pc f (form.InvokeStatic n) = refl
   sides_kept e pc f (form.InvokeInterface c n) = λ i. call_sides (method_at p n) (Fits (Object (names_kept p c i)) ∷ [])
-  sides_kept e pc f (form.New c) = refl
   sides_kept e pc f (form.NewArray k) = λ i. plain int_need (Object (kind_name_kept k i) ∷ [])
   sides_kept e pc f (form.MultiNewArray k n) = λ i. plain (replicate n (Fits Int)) (Object (kind_name_kept k i) ∷ [])
-  sides_kept e pc f form.ArrayLength = refl
   sides_kept e pc f form.Throw = λ i. leaving (plain (Fits (Object (names_kept p throwable_class i)) ∷ []) [])
   sides_kept e pc f (form.CheckCast k) = λ i. plain (Fits (Object (names_kept p object_class i)) ∷ []) (Object (kind_name_kept k i) ∷ [])
   sides_kept e pc f (form.InstanceOf k) = λ i. plain (Fits (Object (names_kept p object_class i)) ∷ []) int_type
-  sides_kept e pc f form.Monitor = refl
+  sides_kept e pc f _ = refl
 
   -- ---- the rules
 
   meets_kept : (n : OperandConstraint) (t : VType) → meets (quiet p) n t ≡ meets p n t
   meets_kept (Fits u) t = assignable_kept t u
-  meets_kept One t = refl
-  meets_kept Half t = refl
-  meets_kept Ref t = refl
-  meets_kept Raw t = refl
-  meets_kept Small t = refl
-  meets_kept Array t = refl
-  meets_kept Never t = refl
+  meets_kept _ t = refl
 
   meet_all_kept : (ns : List OperandConstraint) (ts : List VType) → meet_all (quiet p) ns ts ≡ meet_all p ns ts
-  meet_all_kept [] ts = refl
-  meet_all_kept (n ∷ ns) [] = refl
   meet_all_kept (n ∷ ns) (t ∷ ts) = λ i. meets_kept n t i && meet_all_kept ns ts i
+  meet_all_kept _ _ = refl
 
   all_read_kept : (most : ℕ) (ts : List VType) (rs : List Reading) → all_read (quiet p) most ts rs ≡ all_read p most ts rs
   all_read_kept most ts [] = refl
@@ -294,9 +222,8 @@ module _ (p : Program) where
   -- ---- what is wrong with an instruction
 
   passed_on_kept : (e : Environment) (f : Option Slots) (x : Option Placed) → passed_on (quiet p) e f x ≡ passed_on p e f x
-  passed_on_kept e None x = refl
-  passed_on_kept e (Some f) None = refl
   passed_on_kept e (Some f) (Some x) = λ i. passed f (sides_kept e x.pc f x.form i)
+  passed_on_kept e _ _ = refl
 
   incoming_kept : (e : Environment) (k : ℕ) → incoming (quiet p) e k ≡ incoming p e k
   unfolding incoming

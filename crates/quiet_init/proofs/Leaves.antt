@@ -5,7 +5,7 @@ use Rattle.std.proofs.{lemmas.List.get_or_past, Math.ListN.get_or-map, Math.List
 use Rattle.jvm_model.specs.declared.values.{InitState.TheVariants.Idle, InitState.TheVariants.Running, Value.Value, Value.TheVariants.Null}
 use Rattle.jvm_model.specs.declared.values.Location.TheVariants as place
 use Rattle.jvm_model.specs.declared.{outcome.Next.Next, instr.Instr.Instr, program.Body.Body, program.ClassRec.ClassRec, program.FieldRec.FieldRec}
-use Rattle.jvm_model.specs.declared.outcome.Next.TheVariants.{Go, Fault, Raise, Enter, Leave, Over}
+use Rattle.jvm_model.specs.declared.outcome.Next.TheVariants.{Go}
 use Rattle.jvm_model.specs.declared.instr.Instr.TheVariants as form
 use Rattle.jvm_model.specs.{declared.program.Placed.Placed, declared.program.Program.Program, World.World, World.at, World.put}
 use Rattle.jvm_model.specs.{Linked.IsMethod, Linked.NamesForm, Linked.NamesBody, Linked.NamesEntries, Narrow.narrowed, Step.row, Suite.opening}
@@ -32,28 +32,13 @@ use Rattle.quiet_init.proofs.{Ends.before_is, Ends.left_before, Lists.below_next
 
 pub calm_pure : (i : Instr) → is_calm i ≡ true → TouchesNothing i
 calm_pure form.Nop e = refl
-calm_pure (form.Const v) e = refl
-calm_pure form.Pop e = refl
-calm_pure form.Pop2 e = refl
-calm_pure form.Dup e = refl
-calm_pure form.DupX1 e = refl
-calm_pure form.DupX2 e = refl
-calm_pure form.Dup2 e = refl
-calm_pure form.Dup2X1 e = refl
-calm_pure form.Dup2X2 e = refl
-calm_pure form.Swap e = refl
-calm_pure (form.Binary x w) e = refl
-calm_pure (form.Neg w) e = refl
-calm_pure (form.Convert x) e = refl
-calm_pure form.Compare e = refl
-calm_pure _ e = absurd (cc)
+calm_pure _ e = cc
 
 pub grows : (i : Instr) → is_calm i ≡ true → growth i ≤ puts i
 grows i e = by i
   where
     by : (i : Instr) → growth i ≤ puts i
     by (form.GetStatic f) = omega arith
-    by (form.New c) = omega arith
     by _ = omega arith
 
 module _ (p : Program) (s : Entries) (w : World) where
@@ -76,19 +61,11 @@ module _ (p : Program) (s : Entries) (w : World) where
 
   left_by_go : (u : Entries) (n : ℕ) (a : Next) (t : Entries) (left : ℕ) → ended (answer Go u) w n ≡ outcome a t w left → u ≡ t
   left_by_go u n Go t left e = cc
-  left_by_go u n (Fault c) t left e = absurd (cc)
-  left_by_go u n (Raise v) t left e = absurd (cc)
-  left_by_go u n (Enter m) t left e = absurd (cc)
-  left_by_go u n Leave t left e = absurd (cc)
-  left_by_go u n Over t left e = absurd (cc)
+  left_by_go u n _ t left e = absurd (cc)
 
   none_left : (n : ℕ) (a : Next) (t : Entries) (left : ℕ) → ended stuck_row w n ≡ outcome a t w left → ⊥
   none_left n Go t left e = cc
-  none_left n (Fault c) t left e = cc
-  none_left n (Raise v) t left e = cc
-  none_left n (Enter m) t left e = cc
-  none_left n Leave t left e = cc
-  none_left n Over t left e = cc
+  none_left n _ t left e = cc
 
   stepped : {x y : Access (Answer Entries)} → Both p s.below s x y → (a : Next) (t : Entries) (left : ℕ) → counted (paid (counts_one p a) x) w 1 ≡ outcome a t w left → goes_with s (run x w).value ≡ t
   stepped (both_go vs) a t left e = let k = ends (counts_one p a) (answer Go (moved p s vs)) in left_by_go (moved p s vs) k.0 a t left (sym k.1 ∙ e)
@@ -193,22 +170,7 @@ module _ (p : Program) (c : ℕ) (n : is_trivial p c ≡ false) where
   served : (i : Instr) (w : World) → (is_calm i || is_own p c i) ≡ true → NamesForm p i → HasPlaces p w → at w (place.Init c) ≡ Running → IsServed p i w
   served (form.GetStatic f) w e l h i = begun f w (eqb-true (field_at p f).class c e) l h i
   served (form.PutStatic f) w e l h i = begun f w (eqb-true (field_at p f).class c e) l h i
-  served form.Nop w e l h i = refl
-  served (form.Const v) w e l h i = refl
-  served form.Pop w e l h i = refl
-  served form.Pop2 w e l h i = refl
-  served form.Dup w e l h i = refl
-  served form.DupX1 w e l h i = refl
-  served form.DupX2 w e l h i = refl
-  served form.Dup2 w e l h i = refl
-  served form.Dup2X1 w e l h i = refl
-  served form.Dup2X2 w e l h i = refl
-  served form.Swap w e l h i = refl
-  served (form.Binary x wide) w e l h i = elim (or_cases (is_calm (form.Binary x wide)) false e) [ inl q ↦ q | inr q ↦ absurd (cc) ]
-  served (form.Neg wide) w e l h i = refl
-  served (form.Convert x) w e l h i = refl
-  served form.Compare w e l h i = refl
-  served _ w e l h i = absurd (cc)
+  served x w e l h i = elim (or_cases (is_calm x) false e) [ inl q ↦ q | inr q ↦ absurd (cc) ]
 
   same_next : {s : Entries} {x y : Answer Entries} → Met p s.below s x y → goes_with s y ≡ goes_with s x
   same_next (met_go vs) = refl

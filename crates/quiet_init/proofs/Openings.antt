@@ -107,12 +107,9 @@ module _ (p : Program) where
 
   opens_kept : (t : List ℕ) (v : Value) → opens (quiet p) t v ≡ opens p t v
   unfolding quiet
-  opens_kept t (value.Int n) = refl
-  opens_kept t (value.Long n) = refl
-  opens_kept t value.Null = refl
   opens_kept t (value.Lit n) = ap (λ (b : Bool). cond (nat_eq n 0) b (nat_le n (length p.literals) && takes (quiet p) t (codes "java/lang/String"))) (takes_kept t (codes "java/io/PrintStream"))
       ∙ ap (λ (b : Bool). cond (nat_eq n 0) (takes p t (codes "java/io/PrintStream")) (nat_le n (length p.literals) && b)) (takes_kept t (codes "java/lang/String"))
-  opens_kept t (value.Obj o) = refl
+  opens_kept t _ = refl
 
   is_field : (f : ℕ) → IsField (quiet p) f → IsField p f
   is_field f h = let e = field_count p in omega arith

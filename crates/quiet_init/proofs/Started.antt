@@ -48,13 +48,11 @@ module _ (p : Program) (s : State) (w : World) where
     where
       after : (k : EntryKind) → (run (after_row p s (answer (left_at k) t)) v).value ≡ next (with_entries s t)
       after Absent = refl
-      after InMethod = refl
-      after (InClass x) = refl
+      after _ = refl
 
       left : (k : EntryKind) → (run (after_row p s (answer (left_at k) t)) v).world ≡ v
       left Absent = refl
-      left InMethod = refl
-      left (InClass x) = refl
+      left _ = refl
 
 -- what is left of a row once all parts are looked at
 pub record Looked (q r : Ran (Answer Entries)) : Type 0 where

@@ -6,7 +6,7 @@ use Rattle.jvm_model.specs.declared.values.{Value.Value, InitState.InitState, In
 use Rattle.jvm_model.specs.declared.values.Value.TheVariants as value
 use Rattle.jvm_model.specs.declared.values.Location.TheVariants as place
 use Rattle.jvm_model.specs.declared.{outcome.Next.TheVariants.Go, state.EntryKind.EntryKind}
-use Rattle.jvm_model.specs.declared.{state.EntryKind.TheVariants.Absent, state.EntryKind.TheVariants.InMethod, state.EntryKind.TheVariants.InClass, instr.Op.Op}
+use Rattle.jvm_model.specs.declared.{state.EntryKind.TheVariants.Absent, instr.Op.Op}
 use Rattle.jvm_model.specs.declared.{instr.Conv.Conv, instr.Instr.Instr, program.Placed.Placed, program.Program.Program}
 use Rattle.jvm_model.specs.declared.instr.Conv.TheVariants as conv
 use Rattle.jvm_model.specs.declared.instr.Instr.TheVariants as form
@@ -44,17 +44,11 @@ module _ (p : Program) (b : List Entry) (s : Entries) where
 
   ints : (v : Value) {k l : ℤ → Access (Answer Entries)} → ((n : ℤ) → Both p b s (k n) (l n)) → Both p b s (on_int v k) (on_int v l)
   ints (value.Int n) f = f n
-  ints (value.Long n) f = both_stuck
-  ints value.Null f = both_stuck
-  ints (value.Lit n) f = both_stuck
-  ints (value.Obj o) f = both_stuck
+  ints _ f = both_stuck
 
   longs : (v : Value) {k l : ℤ → Access (Answer Entries)} → ((n : ℤ) → Both p b s (k n) (l n)) → Both p b s (on_long v k) (on_long v l)
-  longs (value.Int n) f = both_stuck
   longs (value.Long n) f = f n
-  longs value.Null f = both_stuck
-  longs (value.Lit n) f = both_stuck
-  longs (value.Obj o) f = both_stuck
+  longs _ f = both_stuck
 
   either : (c : Bool) {k l m n : Access (Answer Entries)} → Both p b s k l → Both p b s m n → Both p b s (cond c k m) (cond c l n)
   either true f g = f
@@ -70,11 +64,8 @@ module _ (p : Program) (b : List Entry) (s : Entries) where
   of_longs x e = pops s.top.stack (λ v vs. pops vs (λ u rest. longs v (λ d. longs u (λ a. whole x d _ _ e (both_go _)))))
 
   converts : (x : Conv) → Both p b s (converted p x s) (converted p x (under b s))
-  converts conv.I2l = pops s.top.stack (λ v vs. ints v (λ a. both_go _))
   converts conv.L2i = pops s.top.stack (λ v vs. longs v (λ a. both_go _))
-  converts conv.I2b = pops s.top.stack (λ v vs. ints v (λ a. both_go _))
-  converts conv.I2c = pops s.top.stack (λ v vs. ints v (λ a. both_go _))
-  converts conv.I2s = pops s.top.stack (λ v vs. ints v (λ a. both_go _))
+  converts _ = pops s.top.stack (λ v vs. ints v (λ a. both_go _))
 
   under_long : (a d : Value) (ws : List Value) → Both p b s (two_under_long p s a d ws) (two_under_long p (under b s) a d ws)
   under_long a d ws = either (is_long d) (both_go _) (pops ws (λ c rest. both_go _))
@@ -221,8 +212,7 @@ module _ (p : Program) (c : ℕ) (n : is_trivial p c ≡ false) (b : List Entry)
 -- a return leaves the world as it was
 hands_world : (k : EntryKind) (p : Program) (s : Entries) (w : World) → (run (handed_on k p [] s) w).world ≡ w
 hands_world Absent p s w = refl
-hands_world InMethod p s w = refl
-hands_world (InClass x) p s w = refl
+hands_world _ p s w = refl
 
 pub end_world : (p : Program) (i : Instr) (s : Entries) (w : World) → is_end i ≡ true → (run (row p i s) w).world ≡ w
 unfolding row row_return hands_on
@@ -259,8 +249,7 @@ met_rows met_stuck h e = h refl
 
 hands_row : (k : EntryKind) (p : Program) (s : Entries) (w : World) → (run (handed_on k p [] s) w).value ≢ stuck_row
 hands_row Absent p s w e = absurd (cc)
-hands_row InMethod p s w e = absurd (cc)
-hands_row (InClass x) p s w e = absurd (cc)
+hands_row _ p s w e = absurd (cc)
 
 pub end_row : (p : Program) (i : Instr) (s : Entries) (w : World) → is_end i ≡ true → (run (row p i s) w).value ≢ stuck_row
 unfolding row row_return hands_on
