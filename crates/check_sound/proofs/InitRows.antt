@@ -1,9 +1,9 @@
 -- Steps on an initialisation entry, and a throwable that is raised into one.
-use Rattle.std.proofs.Common.{◌≡◌, ℕ, zero, suc, ◌+◌, ◌<◌, ◌≤◌, List, [], ◌∷◌, ◌++◌, length, get_or, map, Bool, true, false, not, ◌&&◌, cond, nat_eq, Option, Some, None, IfSome, IsSome, is_some, refl, sym, ◌∙◌, ap, subst, arith, inl, inr}
+use Rattle.std.proofs.Common.{◌≡◌, ℕ, ◌+◌, ◌<◌, List, [], ◌∷◌, ◌++◌, length, map, Bool, true, false, not, ◌&&◌, cond, nat_eq, Option, Some, None, IfSome, IsSome, is_some, refl, sym, ◌∙◌, ap, subst, arith, inl, inr}
 use Rattle.std.specs.Prelude.{flat_map, filter}
 use Rattle.std.specs.List.{list_all, list_any, IsDistinct, AllByRecursion}
 use Rattle.std.proofs.lemmas.Bool.{cases_Bool, cases_lt, or_left, or_right, eqb-true, eq-eqb}
-use Rattle.std.proofs.lemmas.Map.Keys.{IsDistinct-cons}
+use Rattle.std.proofs.lemmas.{List.get_or_past, Map.Keys.IsDistinct-cons}
 use Rattle.jvm_model.specs.declared.values.{Value.Value, Kind.Kind, InitState.InitState}
 use Rattle.jvm_model.specs.declared.values.Value.TheVariants as value
 use Rattle.jvm_model.specs.declared.values.InitState.TheVariants.{Idle, Running, Done, Erroneous}
@@ -30,11 +30,6 @@ use Rattle.check_sound.proofs.{RaiseRows.beneath, RaiseRows.none_typed, RaiseRow
 
 -- ---- a class that isn't trivial is one
 
-no_record : (cs : List ClassRec) (c : ℕ) → length cs ≤ c → get_or cs c no_class ≡ no_class
-no_record [] c h = refl
-no_record (x ∷ cs) zero h = absurd (omega arith)
-no_record (x ∷ cs) (suc c) h = no_record cs c (omega arith)
-
 module _ (p : Program) (lk : Linked p) where
   no_defaults : (c : ℕ) → class_at p c ≡ no_class → default_interfaces p c ≡ []
   unfolding default_interfaces own_interfaces
@@ -51,7 +46,7 @@ module _ (p : Program) (lk : Linked p) where
   pub nontrivial_class : (c : ℕ) → is_trivial p c ≡ false → IsClass p c
   nontrivial_class c n = elim (cases_lt c (length p.classes)) [
     | inl l ↦ l
-    | inr g ↦ absurd (let z : true ≡ false = sym (past_trivial c (no_record p.classes c g)) ∙ n in cc)
+    | inr g ↦ absurd (let z : true ≡ false = sym (past_trivial c (get_or_past p.classes c no_class g)) ∙ n in cc)
   ]
 
 -- ---- the entries below one of a class

@@ -63,13 +63,12 @@ true_false : {b : Bool} {A : Type 0} → b ≡ true → b ≡ false → A
 true_false e f = absurd (cc)
 
 ref_nullable : (p : Program) (w : World) (e : Environment) (t : VType) (v : Value) → is_ref t ≡ true → HasType p w e t v → IsNullable v
-ref_nullable p w e t value.Null m h = tt
-ref_nullable p w e t (value.Lit n) m h = tt
-ref_nullable p w e t (value.Obj n) m h = tt
 ref_nullable p w e Top v m h = absurd (cc)
 ref_nullable p w e Int v m h = absurd (cc)
 ref_nullable p w e Long v m h = absurd (cc)
-ref_nullable p w e _ _ m h = h
+ref_nullable p w e _ (value.Int n) m h = h
+ref_nullable p w e _ (value.Long n) m h = h
+ref_nullable p w e _ _ m h = tt
 
 not_zero : (n : ℕ) → 0 < n → nat_eq n 0 ≡ false
 not_zero n h = elim (cases_Bool (nat_eq n 0)) [ inl q ↦ absurd (let z = eqb-true n 0 q in omega arith) | inr q ↦ q ]

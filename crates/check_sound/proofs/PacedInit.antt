@@ -1,8 +1,8 @@
 -- The rows of initialisation entries touch no more than they pay for: a default interface whose state is read costs 1, and the
 -- superclass nothing.
-use Rattle.std.proofs.Common.{◌≡◌, ℕ, zero, suc, ◌+◌, ◌*◌, ◌≤◌, List, [], ◌∷◌, ◌++◌, length, get_or, map, filter, Bool, true, false, not, ◌&&◌, cond, nat_eq, Option, Some, None, IfSome, refl, sym, subst, arith, inl, inr}
+use Rattle.std.proofs.Common.{◌≡◌, ℕ, suc, ◌+◌, ◌*◌, ◌≤◌, List, [], ◌∷◌, ◌++◌, length, map, filter, Bool, true, false, not, ◌&&◌, cond, nat_eq, Option, Some, None, IfSome, sym, ap, subst, arith, inl, inr}
 use Rattle.std.specs.Prelude.{IsSome}
-use Rattle.std.proofs.lemmas.Bool.{cases_lt, or_right}
+use Rattle.std.proofs.lemmas.{Bool.cases_lt, Bool.or_right, List.get_or_past}
 use Rattle.jvm_model.specs.declared.values.{Value.Value, InitState.InitState}
 use Rattle.jvm_model.specs.declared.values.InitState.TheVariants.{Idle, Erroneous}
 use Rattle.jvm_model.specs.declared.program.{Body.Body, Program.Program, ClassRec.ClassRec}
@@ -15,11 +15,6 @@ use Rattle.jvm_model.specs.Initialise.{Part, superclass_part, parts_of, starts_b
 use Rattle.jvm_model.proofs.Interfaces.{member_first}
 use Rattle.check_sound.proofs.Paced.{Limits, either, paced_done, paced_read, paced_write, paced_make, paced_spend, PaysBy, PacedRow, on_object-paced}
 use Rattle.check_sound.proofs.{Light.instance_cells, Light.light, Light.null_light, PacedRows.none, PacedRows.one, PacedRows.two}
-
-no_record : (cs : List ClassRec) (c : ℕ) → length cs ≤ c → (get_or cs c no_class).initialiser ≡ None
-no_record [] c h = refl
-no_record (x ∷ cs) zero h = absurd (omega arith)
-no_record (x ∷ cs) (suc c) h = no_record cs c (omega arith)
 
 -- a default interface, as a part
 abbrev shared : ℕ → Part
@@ -40,7 +35,7 @@ module _ (p : Program) (lk : Linked p) where
   has_code : (c : ℕ) → HasCode (class_at p c).initialiser
   has_code c = elim (cases_lt c (length p.classes)) [
     | inl l ↦ coded c (class_at p c).initialiser (lk.listed.initialisers c l)
-    | inr g ↦ subst HasCode (sym (no_record p.classes c g)) tt
+    | inr g ↦ subst HasCode (sym (ap (λ (x : ClassRec). x.initialiser) (get_or_past p.classes c no_class g))) tt
   ]
 
 left-pays : (p : Program) (k : EntryKind) → PaysBy p 4 1 (left_at k)

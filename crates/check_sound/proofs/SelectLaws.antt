@@ -233,8 +233,7 @@ module _ (p : Program) (lk : Linked p) where
 
   one_or_first_of : (m : ℕ) (ns ms : List ℕ) → ((n : ℕ) → member n ns ≡ true → member n ms ≡ true) → one_or_first ns ms ≡ Some m → member m ms ≡ true
   one_or_first_of m (n ∷ []) ms h e = let is : n ≡ m = cc in h m (or_left (nat_eq m n) false (eq-eqb m n (sym is)))
-  one_or_first_of m [] (k ∷ ks) h e = let is : k ≡ m = cc in or_left (nat_eq m k) (member m ks) (eq-eqb m k (sym is))
-  one_or_first_of m (n ∷ o ∷ ns) (k ∷ ks) h e = let is : k ≡ m = cc in or_left (nat_eq m k) (member m ks) (eq-eqb m k (sym is))
+  one_or_first_of m _ (k ∷ ks) h e = let is : k ≡ m = cc in or_left (nat_eq m k) (member m ks) (eq-eqb m k (sym is))
   one_or_first_of m _ [] h e = absurd cc
 
   in_interfaces : (x : Kind) (m c : ℕ) (name descriptor : List ℕ) → find_in_interfaces p c name descriptor ≡ Some m → IsInstance p x (name_of p (method_at p m).class)

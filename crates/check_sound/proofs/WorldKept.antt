@@ -24,8 +24,6 @@ whole p w t = record { there = there; fits = fits }
     there (place.Init c) i = t.states c i
     there (place.Field o f) i = (t.fields o i.0 f i.1 i.2 i.3).0
     there (place.Elem o k) i = (t.elements o i.0 k i.1 i.2 i.3 i.4).0
-    there (place.File n) i = tt
-    there (place.Prop n) i = tt
     there _ i = i
 
     fits : (l : Location) → IsSpot p w l → FitsSpot p w l (at w l)
@@ -56,8 +54,6 @@ module _ (p : Program) where
   spot_over u w g (place.Elem o k) i = let s = g.sizes in let lt = i.2 in
       (i.0, i.1, omega arith, sym (kind_over p u w g o i.2) ∙ i.3, subst (λ (n : ℕ). k < n) (ap (λ (z : Head). z.length) (sym (g.heads o i.2))) i.4)
   spot_over u w g (place.Text o) i = let s = g.sizes in omega arith
-  spot_over u w g (place.File n) i = tt
-  spot_over u w g (place.Prop n) i = tt
   spot_over u w g _ i = i
 
   -- a content that is neither a head nor a state keeps its type
@@ -86,7 +82,6 @@ module _ (p : Program) where
 
   apart_state : (l : Location) (c : ℕ) → IsPlainSpot l → same (place.Init c) l ≡ true → ⊥
   apart_state (place.Init d) c n e = absurd n
-  apart_state (place.Head a) c n e = absurd n
   apart_state _ c n e = absurd (cc)
 
   other : (w : World) (l m : Location) (c : Content l) → (same m l ≡ true → ⊥) → at (put w l c) m ≡ at w m
@@ -144,8 +139,6 @@ module _ (p : Program) where
 
   -- a place of the older objects
   older : (w : World) (x : Object) (l : Location) → (IsOf l (size w) → ⊥) → IsSpot p (make_object w x) l → IsSpot p w l
-  older w x (place.File f) n i = tt
-  older w x (place.Prop f) n i = tt
   older w x (place.Head o) n i = before w x o (λ e. n (ap Some e)) i
   older w x (place.Text o) n i = before w x o (λ e. n (ap Some e)) i
   older w x (place.Field o f) n i = let h = before w x o (λ e. n (ap Some e)) i.1 in (i.0, h, kind_over p w (make_object w x) (make_over w x) o h ∙ i.2, i.3)
@@ -161,8 +154,6 @@ module _ (p : Program) where
     inside o e = let s = size_make w x in omega arith
 
     new_there : (l : Location) → IsOf l (size w) → IsSpot p (make_object w x) l → Exists (make_object w x) l
-    new_there (place.File n) o i = tt
-    new_there (place.Prop n) o i = tt
     new_there (place.Head a) o i = inside a (same_Some _ _ o)
     new_there (place.Text a) o i = inside a (same_Some _ _ o)
     new_there (place.Field a f) o i =
