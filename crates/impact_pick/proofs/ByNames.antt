@@ -1,5 +1,5 @@
 -- What the matching by names is: one to one, and each member of a chosen class with that of its place.
-use Rattle.std.proofs.Common.{◌≡◌, ◌⊎◌, ℕ, zero, suc, ◌<◌, ◌≤◌, length, get_or, [], Bool, true, ◌&&◌, nat_eq, nat_lt, nat_le, refl, sym, ◌∙◌, ap, inl, inr, arith}
+use Rattle.std.proofs.Common.{◌≡◌, ◌⊎◌, ℕ, suc, ◌<◌, ◌≤◌, length, get_or, [], Bool, true, ◌&&◌, nat_eq, nat_lt, nat_le, refl, sym, ◌∙◌, ap, inl, inr, arith}
 use Rattle.std.specs.Str.{bytes_eq}
 use Rattle.std.proofs.lemmas.Bool.{and_parts, and_from, or_cases, or_left, or_right, eqb-true, eq-eqb, ltb-true, lt-ltb, leb-true, le-leb}
 use Rattle.et_base.proofs.Texts.{units_true, units_same}
@@ -100,9 +100,8 @@ module _ (keeps : ℕ → Bool) (p q : Program) where
   ]
     where
       above : (a b : ℕ) → 0 < a → 0 < b → a ≤ length p.literals → b ≤ length q.literals → literal_at p a ≡ literal_at q b → LiteralPair a b
-      above zero b x y s t g = absurd (omega arith)
-      above (suc i) zero x y s t g = absurd (omega arith)
       above (suc i) (suc j) x y s t g = constants i j (omega arith) (omega arith) g
+      above _ _ x y s t g = absurd (omega arith)
 
   pub literal_from : {a b : ℕ} → LiteralPair a b → n.literal a b ≡ true
   unfolding by_name

@@ -1,5 +1,5 @@
 -- Tests that are carried from one program over to another give the same.
-use Rattle.std.proofs.Common.{◌≡◌, ℕ, zero, suc, ◌<◌, ◌≤◌, length, get_or, map, List, [], ◌∷◌, true, false, refl, sym, ◌∙◌, ap, subst, inl, inr, arith, Some, None}
+use Rattle.std.proofs.Common.{◌≡◌, ℕ, suc, ◌<◌, ◌≤◌, length, get_or, map, List, ◌∷◌, true, false, refl, sym, ◌∙◌, ap, subst, inl, inr, arith, Some, None}
 use Rattle.std.specs.Str.{bytes_eq}
 use Rattle.std.proofs.Math.ListN.{get_or-map}
 use Rattle.jvm_model.specs.declared.values.{Value.Value, InitState.TheVariants.Idle, Location.Location, Touch.Touch}
@@ -16,9 +16,8 @@ use Rattle.impact_pick.proofs.Worlds.{AlikeWorlds, itself, itself_is, stays_alik
 use Rattle.impact_pick.proofs.Alone.{out_stays, settled_reads, settled_puts, gives_alone}
 
 all_idle : (cs : List ClassRec) (c : ℕ) → get_or (map (λ (x : ClassRec). Idle) cs) c Idle ≡ Idle
-all_idle [] c = refl
-all_idle (x ∷ cs) zero = refl
 all_idle (x ∷ cs) (suc c) = all_idle cs c
+all_idle _ _ = refl
 
 module _ (p q : Program) (n : Numbers) (mt : Matched n p q) (same_files : p.files ≡ q.files) where
   nothing_below : (a c : ℕ) → Tested (itself (size (opening p))) a c → ⊥
@@ -54,8 +53,6 @@ module _ (p q : Program) (n : Numbers) (mt : Matched n p q) (same_files : p.file
 
     -- where all tests before a test are carried over, the worlds before it are alike
     before_alike : (t : ℕ) → t ≤ length p.tests → ((u : ℕ) → 0 < u → u < t → IsCarried n p q u) → AlikeWorlds n (before p t) (before q t)
-    before_alike zero low f = opening_alike
-    before_alike (suc zero) low f = opening_alike
     before_alike (suc (suc k)) low f =
         let h = before_alike (suc k) (omega arith) (λ u lo hi. f u lo (omega arith)) in
         let c = f (suc k) (omega arith) (omega arith) in
@@ -64,6 +61,7 @@ module _ (p q : Program) (n : Numbers) (mt : Matched n p q) (same_files : p.file
         let a : x.given.world ≡ before p (suc (suc k)) = world_as p (down (suc k)) (suc k) x.given x.is in
         let b : s.given.world ≡ before q (suc (suc k)) = world_as q (down (suc k)) (suc k) s.given (given_there (suc k) s.given c s.is) in
         subst (λ (z : World). AlikeWorlds n z (before q (suc (suc k)))) a (subst (λ (z : World). AlikeWorlds n x.given.world z) b s.worlds)
+    before_alike _ low f = opening_alike
 
     -- what the second program's suite gives is what its test gives there
     there : (t : ℕ) (x : InSuite p t) (y : Given) → IsTestNumber p t → given_after q (down t) t ≡ Some y → PairedOutcome n x.given.outcome y.outcome → GivesSame n p q t

@@ -25,7 +25,7 @@ use Rattle.order_law.proofs.{Programs.named-paired, Same.is_free, Same.free_alon
 use Rattle.impact_pick.specs.ByName.{same_class, by_name}
 use Rattle.impact_pick.proofs.{ByNames.class_from, ByNames.literal_from, FormPairs.cond_two, FormPairs.form_pair, Records.n, Constants.literal_alike}
 use Rattle.impact_pick.proofs.Names.{AreKept, IsKept, number_alike}
-use Rattle.impact_pick.proofs.Targets.{NamesClasses, set, PairedTarget, constant_targets, type_targets, field_targets, method_targets, target_alike}
+use Rattle.impact_pick.proofs.Targets.{NamesClasses, set, PairedTarget, type_targets, field_targets, method_targets, target_alike}
 
 -- ---- forms without numbers of the program
 
@@ -100,7 +100,6 @@ module _ (cs ds : List ClassParts) (keeps : ℕ → Bool) (kept : AreKept cs ds 
 
     constant_alike : (k : ℕ) (e : Option Entry) → entry_of c.pool k ≡ e → PairedInstr N (constant_form (target_of (set cs) c.pool e)) (constant_form (target_of (set ds) c.pool e))
     unfolding target_of by_name
-    constant_alike k None g = same.nop
     constant_alike k (Some (entry.Integer z)) g = same.const (const_int z)
     constant_alike k (Some (entry.Long z)) g = same.const (const_long z)
     constant_alike k (Some (entry.Str text)) g = same.const (const_literal (literal_from keeps (skeleton cs) (skeleton ds) (literal_alike cs ds keeps i k text c has (kept.agree i c keep has) g)))
@@ -108,7 +107,7 @@ module _ (cs ds : List ClassParts) (keeps : ℕ → Bool) (kept : AreKept cs ds 
     constant_alike k (Some (entry.Field class pair)) g = both_nop N (field_none (set cs) (kind_of (all_names cs) (name_at c.pool class)) (pair_of c.pool (entry_of c.pool pair))) (field_none (set ds) (kind_of (all_names ds) (name_at c.pool class)) (pair_of c.pool (entry_of c.pool pair)))
     constant_alike k (Some (entry.Method class pair)) g = both_nop N (method_none (set cs) (kind_of (all_names cs) (name_at c.pool class)) (pair_of c.pool (entry_of c.pool pair))) (method_none (set ds) (kind_of (all_names ds) (name_at c.pool class)) (pair_of c.pool (entry_of c.pool pair)))
     constant_alike k (Some (entry.InterfaceMethod class pair)) g = both_nop N (method_none (set cs) (kind_of (all_names cs) (name_at c.pool class)) (pair_of c.pool (entry_of c.pool pair))) (method_none (set ds) (kind_of (all_names ds) (name_at c.pool class)) (pair_of c.pool (entry_of c.pool pair)))
-    constant_alike k (Some e) g = same.nop
+    constant_alike k _ g = same.nop
 
     -- ---- forms of a member and of a type
 
@@ -126,10 +125,9 @@ module _ (cs ds : List ClassParts) (keeps : ℕ → Bool) (kept : AreKept cs ds 
 
     members_alike : (o : ℕ) {t u : Target} → PairedTarget N t u → PairedInstr N (members (Some t) o) (members (Some u) o)
     unfolding members
-    members_alike o (constant_targets x) = same.nop
-    members_alike o (type_targets x) = same.nop
     members_alike o (field_targets {c = a} {d = b} {f = f} {g = g} x y) = field_alike o a b f g x y
     members_alike o (method_targets {k = k} {l = l} {a = a} {b = b} x y) = method_alike o k l a b x y
+    members_alike o _ = same.nop
 
     array_alike : {k l : Kind} → PairedKind (Tested N.class) k l → PairedKind (Tested N.class) (array_of k) (array_of l)
     array_alike (class_kinds e) = array_kinds 1 (class_bases e)
@@ -144,10 +142,8 @@ module _ (cs ds : List ClassParts) (keeps : ℕ → Bool) (kept : AreKept cs ds 
 
     types_alike : (o : RawOp) {t u : Target} → PairedTarget N t u → PairedInstr N (types (Some t) o) (types (Some u) o)
     unfolding types
-    types_alike o (constant_targets x) = same.nop
     types_alike o (type_targets {k = k} {l = l} x) = type_alike o k l x
-    types_alike o (field_targets x y) = same.nop
-    types_alike o (method_targets x y) = same.nop
+    types_alike o _ = same.nop
 
     numbers_alike : (k : ℕ) → PairedKind (Tested N.class) (number_array k) (number_array k)
     numbers_alike k =

@@ -16,9 +16,8 @@ any_next : (f : ℕ → Bool) (i : ℕ) → list_any f (range_with_len 1 (suc i)
 any_next f i = ap (list_any f) (range_suc 1 i (1 + i) refl) ∙ (list_any-append f (range_with_len 1 i) ((1 + i) ∷ []) ∙ or_none (list_any f (range_with_len 1 i)) (f (1 + i)))
 
 put_one : (b : Bool) (xs : List ℕ) (x : ℕ) → xs ++ cond b (x ∷ []) [] ≡ cond b (xs ++ x ∷ []) xs
-put_one true xs x = refl
-put_one false [] x = refl
 put_one false (y ∷ xs) x = ap (λ (zs : List ℕ). y ∷ zs) (put_one false xs x)
+put_one _ _ x = refl
 
 -- a number more is found where it passes the test
 pub next_found : (f : ℕ → Bool) (i : ℕ) (b : Bool) (found new : List ℕ) → found ≡ filter f (range_with_len 1 i) → b ≡ f (i + 1) → new ≡ cond b (found ++ (i + 1) ∷ []) found → new ≡ filter f (range_with_len 1 (i + 1))

@@ -73,8 +73,7 @@ module _ (cs ds : List ClassParts) (keeps : ℕ → Bool) (kept : AreKept cs ds 
     constant_alike us k (Some (entry.Integer z)) g = narrowed_alone N us z
     constant_alike us k (Some (entry.Long z)) g = const_long z
     constant_alike us k (Some (entry.Str text)) g = const_literal (literal_from keeps (skeleton cs) (skeleton ds) (literal_alike cs ds keeps i k text c has (kept.agree i c keep has) g))
-    constant_alike us k None g = default_alone N us
-    constant_alike us k (Some e) g = default_alone N us
+    constant_alike us k _ g = default_alone N us
 
     static_alike : (us : List ℕ) (o : Option ℕ) → PairedConstant N (static_opening (literals cs) c.pool us o) (static_opening (literals ds) c.pool us o)
     static_alike us None = default_alone N us

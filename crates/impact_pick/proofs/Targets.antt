@@ -116,7 +116,6 @@ module _ (cs ds : List ClassParts) (keeps : ℕ → Bool) (kept : AreKept cs ds 
 
     pub target_alike : (k : ℕ) (e : Option Entry) (t : Target) → entry_of c.pool k ≡ e → target_of (set cs) c.pool e ≡ Some t → Resolved N (target_of (set ds) c.pool e) t
     unfolding target_of by_name
-    target_alike k None t g h = absurd (cc)
     target_alike k (Some (entry.Integer z)) t g h = let q : target.Constant (Int z) ≡ t = cc in record { other = target.Constant (Int z); is = refl; paired = subst (λ (y : Target). PairedTarget N y (target.Constant (Int z))) q (constant_targets (const_int z)) }
     target_alike k (Some (entry.Long z)) t g h = let q : target.Constant (Long z) ≡ t = cc in record { other = target.Constant (Long z); is = refl; paired = subst (λ (y : Target). PairedTarget N y (target.Constant (Long z))) q (constant_targets (const_long z)) }
     target_alike k (Some (entry.Str text)) t g h =
@@ -131,4 +130,4 @@ module _ (cs ds : List ClassParts) (keeps : ℕ → Bool) (kept : AreKept cs ds 
     target_alike k (Some (entry.Field class pair)) t g h = let w = pool.fields k class pair g in field_alike class w.0 (pair_of c.pool (entry_of c.pool pair)) t (kind_of (all_names cs) (name_at c.pool class)) w.1 refl h
     target_alike k (Some (entry.Method class pair)) t g h = let w = pool.methods k class pair g in method_alike class w.0 (pair_of c.pool (entry_of c.pool pair)) t (kind_of (all_names cs) (name_at c.pool class)) w.1 refl h
     target_alike k (Some (entry.InterfaceMethod class pair)) t g h = let w = pool.interface_methods k class pair g in method_alike class w.0 (pair_of c.pool (entry_of c.pool pair)) t (kind_of (all_names cs) (name_at c.pool class)) w.1 refl h
-    target_alike k (Some e) t g h = absurd (cc)
+    target_alike k _ t g h = absurd (cc)
