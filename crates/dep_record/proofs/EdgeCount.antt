@@ -1,14 +1,15 @@
 -- How many conflicts a record may have: each comes after the one before it, and so their ranks grow.
-use Rattle.std.proofs.Common.{◌≡◌, ℕ, ◌+◌, ◌*◌, ◌<◌, ◌≤◌, Bool, true, false, ◌&&◌, eqb, List, [], ◌∷◌, ◌++◌, length, Option, Some, None, Result, Ok, Err, if◌then◌else◌, option_and_then, refl, sym, ap, subst, inl, inr, arith}
+use Rattle.std.proofs.Common.{◌≡◌, ℕ, ◌+◌, ◌*◌, ◌<◌, ◌≤◌, Bool, true, false, cond, List, [], ◌∷◌, ◌++◌, length, Option, Some, None, Ok, sym, ap, subst, inl, inr, arith}
 use Rattle.std.specs.Prelude.{codes}
-use Rattle.std.specs.Str.{bytes_eq}
+use Rattle.std.specs.{Option.ok_or, Str.bytes_eq}
 use Rattle.std.proofs.lemmas.Bool.{and_parts, or_cases, leb-true, ltb-true, eqb-true}
-use Rattle.std.proofs.lemmas.List.{length_push}
+use Rattle.std.proofs.lemmas.{List.length_push, Option.same_Some}
 use Rattle.order_law.specs.declared.edges.{Edge.Edge, EdgeKind.EdgeKind, EdgeKind.TheVariants.Raw, EdgeKind.TheVariants.Waw, EdgeKind.TheVariants.War}
 use Rattle.order_law.specs.RecordForm.{is_edge, edge_before, kind_number}
-use Rattle.dep_record.specs.Fields.{edge_of, edge_if, follows, next_edge}
-use Rattle.dep_record.specs.RecordReading.{is_over, last_of, next_step}
-use Rattle.dep_record.proofs.EdgeLaws.{last_pushed}
+use Rattle.et_base.specs.Answers.{tested}
+use Rattle.dep_record.specs.Fields.{follows, next_edge}
+use Rattle.dep_record.specs.RecordReading.{◌>>=◌, next_line, is_over, last_of, next_step}
+use Rattle.dep_record.proofs.{EdgeLaws.last_pushed, FieldLaws.next_edge_said, SaidLaws.same_Ok, SaidLaws.went_on, SaidLaws.was_some}
 
 -- the place of a conflict among all that 1,024 tests may have
 abbrev pub rank : Edge → ℕ
@@ -82,37 +83,18 @@ few_counted tests es few counted = by (length es) (last_of es) counted
         let k = kind_small e.kind in
         omega arith
 
-said_by : (tests : ℕ) (before : Option Edge) (line : List ℕ) (e : Edge) → next_edge tests before line ≡ Some e → (is_edge tests e ≡ true) × (follows before e ≡ true)
-unfolding next_edge
-said_by tests before line e h = by (edge_of line) h
-  where
-    fit : (d : Edge) (b : Bool) → (is_edge tests d && follows before d) ≡ b → ◌≡◌ {A = Option Edge} (if b then Some d else None) (Some e) → (is_edge tests e ≡ true) × (follows before e ≡ true)
-    fit d true q h = let s : d ≡ e = cc in and_parts (is_edge tests e) (follows before e) (subst (λ (x : Edge). (is_edge tests x && follows before x) ≡ true) s q)
-    fit d false q h = cc
-
-    by : (o : Option Edge) → option_and_then (edge_if tests before) o ≡ Some e → (is_edge tests e ≡ true) × (follows before e ≡ true)
-    by None h = cc
-    by (Some d) h = fit d (is_edge tests d && follows before d) refl h
-
--- the conflict that a step found
-abbrev found_in : Result (Option (Edge × List (List ℕ))) ℕ → Option Edge
-found_in (Ok (Some x)) = Some x.0
-found_in (Ok None) = None
-found_in (Err n) = None
-
-found_by : (tests : ℕ) (before : Option Edge) (n : ℕ) (line : List ℕ) (more rest : List (List ℕ)) (e : Edge) (short ends over : Bool) (o : Option Edge)
-    → eqb (length more) 0 ≡ short → bytes_eq line (codes "end") ≡ ends → is_over more ≡ over → next_edge tests before line ≡ o
-    → next_step tests before n (line ∷ more) ≡ Ok (Some (e, rest)) → o ≡ Some e
-unfolding next_step
-found_by tests before n line more rest e true ends over o a b c d h = let g = rw a at h in cc
-found_by tests before n line more rest e false true true o a b c d h = let g = rw (a, b, c) at h in cc
-found_by tests before n line more rest e false true false o a b c d h = let g = rw (a, b, c) at h in cc
-found_by tests before n line more rest e false false over None a b c d h = let g = rw (a, b, d) at h in cc
-found_by tests before n line more rest e false false over (Some x) a b c d h = let g = rw (a, b, d) at h in ap found_in g
-
 -- the next conflict of a text
 pub edge_found : (tests : ℕ) (before : Option Edge) (n : ℕ) (left rest : List (List ℕ)) (e : Edge) → next_step tests before n left ≡ Ok (Some (e, rest)) → (is_edge tests e ≡ true) × (follows before e ≡ true)
 unfolding next_step
-edge_found tests before n [] rest e h = cc
-edge_found tests before n (line ∷ more) rest e h =
-    said_by tests before line e (found_by tests before n line more rest e (eqb (length more) 0) (bytes_eq line (codes "end")) (is_over more) (next_edge tests before line) refl refl refl refl h)
+edge_found tests before n left rest e h =
+    let a = went_on (next_line n left) _ (Some (e, rest)) h in
+    by a.0.0 a.0.1 (bytes_eq a.0.0 (codes "end")) a.2
+  where
+    by : (line : List ℕ) (more : List (List ℕ)) (ends : Bool)
+        → cond ends (tested (is_over more) (n + 1) >>= λ _. Ok None) (◌>>=◌ {B = Option (Edge × List (List ℕ))} (ok_or (next_edge tests before line) n) (λ d. Ok (Some (d, more)))) ≡ Ok (Some (e, rest)) → (is_edge tests e ≡ true) × (follows before e ≡ true)
+    by line more true h = let a = went_on (tested (is_over more) (n + 1)) _ (Some (e, rest)) h in let none = a.2 in absurd cc
+    by line more false h =
+        let a = went_on (ok_or (next_edge tests before line) n) _ (Some (e, rest)) h in
+        let said = next_edge_said tests before line a.0 (was_some _ n a.0 a.1) in
+        let same : a.0 ≡ e = ap (λ (x : Edge × List (List ℕ)). x.0) (same_Some _ _ (same_Ok _ _ a.2)) in
+        subst (λ (z : Edge). (is_edge tests z ≡ true) × (follows before z ≡ true)) same (said.1, said.2)

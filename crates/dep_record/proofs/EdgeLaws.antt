@@ -2,7 +2,7 @@
 use Rattle.std.proofs.Common.{◌≡◌, ℕ, ◌+◌, ◌-◌, Bool, true, false, cond, eqb, List, [], ◌∷◌, ◌++◌, length, slice_get, Option, Some, None, Result, Ok, Err, refl, sym, ap, ◌∙◌, arith}
 use Rattle.std.specs.Prelude.{codes}
 use Rattle.std.specs.{List.onto_first, Str.bytes_eq}
-use Rattle.std.proofs.lemmas.{Bool.ne_eqb, List.append_assoc, List.append-nil}
+use Rattle.std.proofs.lemmas.{Bool.ne_eqb, List.append_assoc, List.append-nil, List.length_push}
 use Rattle.et_base.specs.Answers.{Fails}
 use Rattle.order_law.specs.declared.edges.Edge.{Edge}
 use Rattle.dep_record.specs.Fields.{cut, next_edge}
@@ -58,18 +58,11 @@ one_more front e (Ok es) = ap Ok (sym (append_assoc front (e ∷ []) es))
 one_more front e (Err n) = refl
 
 pub last_pushed : (front : List Edge) (e : Edge) → last_of (front ++ e ∷ []) ≡ Some e
-last_pushed front e = by front
+last_pushed front e = let s : length (front ++ e ∷ []) - 1 ≡ length front = omega (arith, length_push front e) in rw s (at_length front)
   where
     at_length : (es : List Edge) → slice_get (es ++ e ∷ []) (length es) ≡ Some e
     at_length [] = refl
     at_length (x ∷ es) = at_length es
-
-    size : (es : List Edge) → length (es ++ e ∷ []) ≡ length es + 1
-    size [] = refl
-    size (x ∷ es) = let s = size es in omega (arith, s)
-
-    by : (es : List Edge) → last_of (es ++ e ∷ []) ≡ Some e
-    by es = let s : length (es ++ e ∷ []) - 1 ≡ length es = omega (arith, size es) in rw s (at_length es)
 
 -- a conflict more was found
 pub edges_go_on : (tests : ℕ) (front : List Edge) (n n2 : ℕ) (left rest : List (List ℕ)) (e : Edge) (all : Result (List Edge) ℕ)

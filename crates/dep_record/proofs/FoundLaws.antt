@@ -26,11 +26,10 @@ abbrev pub later_lines : Said → List (List ℕ)
 later_lines s = suite_lines s.more ++ (numbered units_line 1 s.units ++ (reach_lines s.more ++ (map edge_line s.edges ++ end_line ∷ [])))
 
 pub two_parts : (a b : List (List ℕ)) → (a ++ (b ++ end_line ∷ [])) ++ [] ∷ [] ≡ a ++ (b ++ (end_line ∷ [] ∷ []))
-two_parts a b = append_assoc a (b ++ end_line ∷ []) ([] ∷ []) ∙ ap (λ t. a ++ t) (append_assoc b (end_line ∷ []) ([] ∷ []))
+two_parts a b = simp append_assoc
 
 pub four_parts : (a b c d : List (List ℕ)) → (a ++ (b ++ (c ++ (d ++ end_line ∷ [])))) ++ [] ∷ [] ≡ a ++ (b ++ (c ++ (d ++ (end_line ∷ [] ∷ []))))
-four_parts a b c d =
-    append_assoc a (b ++ (c ++ (d ++ end_line ∷ []))) ([] ∷ []) ∙ ap (λ t. a ++ t) (append_assoc b (c ++ (d ++ end_line ∷ [])) ([] ∷ []) ∙ ap (λ t. b ++ t) (two_parts c d))
+four_parts a b c d = simp append_assoc
 
 -- what the lines after the third say
 pub record LaterSaid (digest : List ℕ) (tests : ℕ) (newer : Bool) (left : List (List ℕ)) (s : Said) : Type 0 where

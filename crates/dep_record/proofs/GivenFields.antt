@@ -117,9 +117,10 @@ unfolding state_of
 state_given true = refl
 state_given false = refl
 
-state_none : (settled : Bool) → has_none 32 (state_word settled) ≡ true
-state_none true = refl
-state_none false = refl
+-- no space in a word, and no line feed
+state_none : (settled : Bool) → (has_none 32 (state_word settled) ≡ true) × (has_none 10 (state_word settled) ≡ true)
+state_none true = (refl, refl)
+state_none false = (refl, refl)
 
 kind_given : (kind : EdgeKind) → kind_of (kind_word kind) ≡ Some kind
 unfolding kind_of
@@ -127,10 +128,10 @@ kind_given Raw = refl
 kind_given Waw = refl
 kind_given War = refl
 
-kind_none : (kind : EdgeKind) → has_none 32 (kind_word kind) ≡ true
-kind_none Raw = refl
-kind_none Waw = refl
-kind_none War = refl
+kind_none : (kind : EdgeKind) → (has_none 32 (kind_word kind) ≡ true) × (has_none 10 (kind_word kind) ≡ true)
+kind_none Raw = (refl, refl)
+kind_none Waw = (refl, refl)
+kind_none War = (refl, refl)
 
 -- ---- sums
 
@@ -160,13 +161,15 @@ number_after_given word n h le = ap (option_and_then (number_up_to 1024)) (after
 
 -- ---- lines
 
-pub class_given : (j : ℕ) (hash : List ℕ) → j < 2 ^ 64 → IsHash hash → class_of j (class_line j hash) ≡ Some hash
+pub class_given : (j : ℕ) (hash : List ℕ) → j < 2 ^ 64 → is_hash hash ≡ true → class_of j (class_line j hash) ≡ Some hash
 unfolding class_of
-class_given j hash fits h = ap (option_and_then hash_of) (after_number_given (codes "class") j (encode_lower hash) refl fits) ∙ hash_given hash h
+class_given j hash fits h = ap (option_and_then hash_of) (after_number_given (codes "class") j (encode_lower hash) refl fits) ∙ hash_given hash (hash_from hash h)
 
-pub units_given : (i n : ℕ) → i < 2 ^ 64 → n ≤ 2 ^ 26 → units_of i (units_line i n) ≡ Some n
+pub units_given : (i n : ℕ) → i < 2 ^ 64 → nat_le n (2 ^ 26) ≡ true → units_of i (units_line i n) ≡ Some n
 unfolding units_of
-units_given i n fits le = ap (option_and_then (number_up_to (2 ^ 26))) (after_number_given (codes "units") i (decimal n) refl fits) ∙ number_given (2 ^ 26) n le (omega arith)
+units_given i n fits h =
+    let le : n ≤ 2 ^ 26 = leb-true n (2 ^ 26) h in
+    ap (option_and_then (number_up_to (2 ^ 26))) (after_number_given (codes "units") i (decimal n) refl fits) ∙ number_given (2 ^ 26) n le (omega arith)
 
 small_within : (c : ℕ) (ns : List ℕ) → c ≤ 1024 → list_all (λ x. nat_le 1 x && nat_le x c) ns ≡ true → list_all is_small ns ≡ true
 small_within c [] le h = refl
@@ -182,7 +185,7 @@ reach_given c i r le fits h =
     let b = and_parts _ _ a.1 in
     let classes = numbers_given r.classes (leb-true _ _ a.0) (small_within c r.classes le b.0) in
     ap (option_and_then (reach_from c)) (after_number_given (codes "reach") i (worded (state_word r.settled) (numbers_text r.classes)) refl fits)
-    ∙ rw (cut_first 32 (state_word r.settled) (numbers_text r.classes) (state_none r.settled), state_given r.settled, classes, h) refl
+    ∙ rw (cut_first 32 (state_word r.settled) (numbers_text r.classes) (state_none r.settled).0, state_given r.settled, classes, h) refl
 
 number_first_given : (n : ℕ) (rest : List ℕ) → n ≤ 4294967295 → number_first (worded (decimal n) rest) ≡ Some (n, rest)
 unfolding number_first
@@ -194,7 +197,7 @@ edge_given e x y z =
     let first = number_first_given e.earlier (worded (decimal e.later) (worded (decimal e.count) e.first)) x in
     let second = number_first_given e.later (worded (decimal e.count) e.first) y in
     let third = number_first_given e.count e.first z in
-    rw (cut_first 32 (kind_word e.kind) (edge_fields e) (kind_none e.kind), kind_given e.kind, first, second, third) refl
+    rw (cut_first 32 (kind_word e.kind) (edge_fields e) (kind_none e.kind).0, kind_given e.kind, first, second, third) refl
 
 -- the numbers and the location of a conflict
 record EdgeParts (tests : ℕ) (e : Edge) : Type 0 where
@@ -229,7 +232,7 @@ next_edge_given tests before e few is f =
 
 -- ---- no line feed, 10, in a line
 
-abbrev clear : List ℕ → Bool
+abbrev pub clear : List ℕ → Bool
 clear l = has_none 10 l
 
 worded_clear : (word rest : List ℕ) → clear word ≡ true → clear rest ≡ true → clear (worded word rest) ≡ true
@@ -258,14 +261,15 @@ hash_line_clear word hash w h = worded_clear word (encode_lower hash) w (hash_cl
 pub number_line_clear : (word : List ℕ) (n : ℕ) → clear word ≡ true → n < 2 ^ 64 → clear (worded word (decimal n)) ≡ true
 number_line_clear word n w fits = worded_clear word (decimal n) w (decimal_clear n fits)
 
-pub class_clear : (j : ℕ) (hash : List ℕ) → j < 2 ^ 64 → IsBytes hash → clear (class_line j hash) ≡ true
+pub class_clear : (j : ℕ) (hash : List ℕ) → j < 2 ^ 64 → is_hash hash ≡ true → clear (class_line j hash) ≡ true
 class_clear j hash fits h =
     let digits = encode_lower hash in
-    worded_clear (codes "class") (worded (decimal j) digits) refl (worded_clear (decimal j) digits (decimal_clear j fits) (hash_clear hash h))
+    worded_clear (codes "class") (worded (decimal j) digits) refl (worded_clear (decimal j) digits (decimal_clear j fits) (hash_clear hash (hash_from hash h).bytes))
 
-pub units_clear : (i n : ℕ) → i < 2 ^ 64 → n < 2 ^ 64 → clear (units_line i n) ≡ true
-units_clear i n fits le =
-    worded_clear (codes "units") (worded (decimal i) (decimal n)) refl (worded_clear (decimal i) (decimal n) (decimal_clear i fits) (decimal_clear n le))
+pub units_clear : (i n : ℕ) → i < 2 ^ 64 → nat_le n (2 ^ 26) ≡ true → clear (units_line i n) ≡ true
+units_clear i n fits h =
+    let le : n ≤ 2 ^ 26 = leb-true n (2 ^ 26) h in
+    worded_clear (codes "units") (worded (decimal i) (decimal n)) refl (worded_clear (decimal i) (decimal n) (decimal_clear i fits) (decimal_clear n (omega arith)))
 
 more_clear : (ns : List ℕ) → list_all is_small ns ≡ true → clear (more_numbers ns) ≡ true
 more_clear [] h = refl
@@ -279,17 +283,13 @@ numbers_clear (n ∷ ns) h =
     let a = and_parts _ _ h in
     none_of_two 10 (decimal n) (more_numbers ns) (decimal_clear n (small_fits n a.0)) (more_clear ns a.1)
 
-state_clear : (settled : Bool) → clear (state_word settled) ≡ true
-state_clear true = refl
-state_clear false = refl
-
 pub reach_clear : (c i : ℕ) (r : Reach) → c ≤ 1024 → i < 2 ^ 64 → is_reach c r ≡ true → clear (reach_line i r) ≡ true
 reach_clear c i r le fits h =
     let b = and_parts _ _ (and_parts _ _ h).1 in
     let list = numbers_text r.classes in
     let rest = worded (state_word r.settled) list in
     worded_clear (codes "reach") (worded (decimal i) rest) refl
-    (worded_clear (decimal i) rest (decimal_clear i fits) (worded_clear (state_word r.settled) list (state_clear r.settled) (numbers_clear r.classes (small_within c r.classes le b.0))))
+    (worded_clear (decimal i) rest (decimal_clear i fits) (worded_clear (state_word r.settled) list (state_none r.settled).1 (numbers_clear r.classes (small_within c r.classes le b.0))))
 
 printable_clear : (t : List ℕ) → list_all (λ b. nat_le 32 b && nat_le b 126) t ≡ true → clear t ≡ true
 printable_clear [] h = refl
@@ -297,11 +297,6 @@ printable_clear (b ∷ t) h =
     let a = and_parts _ _ h in
     let low : 32 ≤ b = leb-true 32 b (and_parts _ _ a.0).0 in
     and_from _ _ (not_from_false _ (ne_eqb b 10 (λ e. omega arith))) (printable_clear t a.1)
-
-kind_clear : (kind : EdgeKind) → clear (kind_word kind) ≡ true
-kind_clear Raw = refl
-kind_clear Waw = refl
-kind_clear War = refl
 
 pub edge_clear : (tests : ℕ) (e : Edge) → tests ≤ 1024 → is_edge tests e ≡ true → clear (edge_line e) ≡ true
 edge_clear tests e few is =
@@ -311,5 +306,5 @@ edge_clear tests e few is =
     let counted : e.count ≤ 2 ^ 28 = parts.counted in
     let third = worded (decimal e.count) e.first in
     let second = worded (decimal e.later) third in
-    worded_clear (kind_word e.kind) (edge_fields e) (kind_clear e.kind) (worded_clear (decimal e.earlier) second (decimal_clear e.earlier (omega arith))
+    worded_clear (kind_word e.kind) (edge_fields e) (kind_none e.kind).1 (worded_clear (decimal e.earlier) second (decimal_clear e.earlier (omega arith))
     (worded_clear (decimal e.later) third (decimal_clear e.later (omega arith)) (worded_clear (decimal e.count) e.first (decimal_clear e.count (omega arith)) (printable_clear e.first parts.printable))))

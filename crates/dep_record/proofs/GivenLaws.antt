@@ -11,12 +11,9 @@ use Rattle.order_law.specs.RecordForm.{is_edge, edge_before, edges_ascend, is_re
 use Rattle.dep_record.specs.RecordText.{Said, text_of, header_line, digest_line, tests_line, suite_line, classes_line, class_line, units_line, reach_line, kind_word, edge_fields, edge_line, end_line, numbered, file_lines, is_newer, lines_of, is_hash, more_hashes, has_hashes}
 use Rattle.dep_record.specs.Fields.{header_of, hash_after, number_after, class_of, units_of, reach_of, follows}
 use Rattle.dep_record.specs.RecordReading.{◌>>=◌, pieces, line_by, lines_by, edges_from, older_in, classes_in, newer_in, said_in}
-use Rattle.dep_record.proofs.{CutLaws.has_none, SaidLaws.ascend_from}
-use Rattle.dep_record.proofs.GivenFields.{hash_from, first_piece, header_given, hash_after_given, number_after_given, class_given, units_given, reach_given, next_edge_given, header_clear, hash_line_clear, number_line_clear, class_clear, units_clear, reach_clear, edge_clear}
+use Rattle.dep_record.proofs.SaidLaws.{ascend_from}
+use Rattle.dep_record.proofs.GivenFields.{clear, hash_from, first_piece, header_given, hash_after_given, number_after_given, class_given, units_given, reach_given, next_edge_given, header_clear, hash_line_clear, number_line_clear, class_clear, units_clear, reach_clear, edge_clear}
 use Rattle.dep_record.proofs.FoundLaws.{later_lines, two_parts, four_parts}
-
-abbrev clear : List ℕ → Bool
-clear l = has_none 10 l
 
 abbrev all_clear : List (List ℕ) → Bool
 all_clear ls = list_all clear ls
@@ -115,18 +112,6 @@ parts_of_more units m h =
     let b = and_parts _ _ a.1 in
     record { few = leb-true _ _ a.0; size = eqb-true _ _ b.0; each = b.1 }
 
-units_law : (i u : ℕ) → i < 2 ^ 64 → nat_le u (2 ^ 26) ≡ true → units_of i (units_line i u) ≡ Some u
-units_law i u fits h = units_given i u fits (leb-true _ _ h)
-
-units_clear_law : (i u : ℕ) → i < 2 ^ 64 → nat_le u (2 ^ 26) ≡ true → clear (units_line i u) ≡ true
-units_clear_law i u fits h = units_clear i u fits (omega (arith, leb-true _ _ h))
-
-class_law : (j : ℕ) (hash : List ℕ) → j < 2 ^ 64 → is_hash hash ≡ true → class_of j (class_line j hash) ≡ Some hash
-class_law j hash fits h = class_given j hash fits (hash_from hash h)
-
-class_clear_law : (j : ℕ) (hash : List ℕ) → j < 2 ^ 64 → is_hash hash ≡ true → clear (class_line j hash) ≡ true
-class_clear_law j hash fits h = class_clear j hash fits (hash_from hash h).bytes
-
 -- the lines after the third
 older_given : (digest units : List ℕ) (es : List Edge) → Parts (record { digest = digest; units = units; edges = es; more = None })
     → older_in digest (length units) ((numbered units_line 1 units ++ (map edge_line es ++ end_line ∷ [])) ++ [] ∷ []) ≡ Ok (record { digest = digest; units = units; edges = es; more = None })
@@ -135,7 +120,7 @@ older_given digest units es h =
     let tests = length units in
     let left = map edge_line es ++ (end_line ∷ [] ∷ []) in
     let few : tests ≤ 1024 = h.few in
-    let us = lines_given units_of units_line (λ u. nat_le u (2 ^ 26)) units_law units tests 1 4 left refl (omega arith) (some_after (map edge_line es) (end_line ∷ [] ∷ []) refl) h.units in
+    let us = lines_given units_of units_line (λ u. nat_le u (2 ^ 26)) units_given units tests 1 4 left refl (omega arith) (some_after (map edge_line es) (end_line ∷ [] ∷ []) refl) h.units in
     let e = edges_given tests None (4 + tests) es few h.edges h.order in
     ap (older_in digest tests) (two_parts (numbered units_line 1 units) (map edge_line es)) ∙ rw (us, e) refl
 
@@ -155,8 +140,8 @@ classes_given digest units es m h g hs =
     let s1 = some_after (map edge_line es) (end_line ∷ [] ∷ []) refl in
     let s2 = some_after (numbered reach_line 1 m.reach) last s1 in
     let s3 = some_after (numbered units_line 1 units) third s2 in
-    let cs = lines_given class_of class_line is_hash class_law m.classes count 1 6 second refl (omega arith) s3 hs in
-    let us = lines_given units_of units_line (λ u. nat_le u (2 ^ 26)) units_law units tests 1 (6 + count) third refl (omega arith) s2 h.units in
+    let cs = lines_given class_of class_line is_hash class_given m.classes count 1 6 second refl (omega arith) s3 hs in
+    let us = lines_given units_of units_line (λ u. nat_le u (2 ^ 26)) units_given units tests 1 (6 + count) third refl (omega arith) s2 h.units in
     let rs = lines_given (reach_of count) reach_line (is_reach count) (λ i r fits is. reach_given count i r fewer fits is) m.reach tests 1 (6 + count + tests) last (sym size) (omega arith) s1 g.each in
     let e = edges_given tests None (6 + count + tests + tests) es few h.edges h.order in
     rw (cs, us, rs, e) refl
@@ -187,7 +172,7 @@ later_clear : (digest units : List ℕ) (es : List Edge) (more : Option More) �
     → all_clear (later_lines (record { digest = digest; units = units; edges = es; more = more })) ≡ true
 later_clear digest units es None h g hs =
     let few : length units ≤ 1024 = h.few in
-    clear_both (numbered units_line 1 units) (map edge_line es ++ end_line ∷ []) (lines_clear units_line (λ u. nat_le u (2 ^ 26)) units_clear_law units 1 (omega arith) h.units)
+    clear_both (numbered units_line 1 units) (map edge_line es ++ end_line ∷ []) (lines_clear units_line (λ u. nat_le u (2 ^ 26)) units_clear units 1 (omega arith) h.units)
     (clear_both (map edge_line es) (end_line ∷ []) (edges_clear (length units) es few h.edges) refl)
 later_clear digest units es (Some m) h g hs =
     let few : length units ≤ 1024 = h.few in
@@ -195,11 +180,11 @@ later_clear digest units es (Some m) h g hs =
     let fewer : length m.classes ≤ 1024 = p.few in
     let size : length m.reach ≡ length units = p.size in
     let a = and_parts _ _ hs in
-    let files = and_from _ _ (hash_line_clear (codes "suite") m.suite refl (hash_from m.suite a.0).bytes) (and_from _ _ (number_line_clear (codes "classes") (length m.classes) refl (omega arith)) (lines_clear class_line is_hash class_clear_law m.classes 1 (omega arith) a.1)) in
+    let files = and_from _ _ (hash_line_clear (codes "suite") m.suite refl (hash_from m.suite a.0).bytes) (and_from _ _ (number_line_clear (codes "classes") (length m.classes) refl (omega arith)) (lines_clear class_line is_hash class_clear m.classes 1 (omega arith) a.1)) in
     let last = map edge_line es ++ end_line ∷ [] in
     let third = numbered reach_line 1 m.reach ++ last in
     clear_both (file_lines m) (numbered units_line 1 units ++ third) files
-    (clear_both (numbered units_line 1 units) third (lines_clear units_line (λ u. nat_le u (2 ^ 26)) units_clear_law units 1 (omega arith) h.units)
+    (clear_both (numbered units_line 1 units) third (lines_clear units_line (λ u. nat_le u (2 ^ 26)) units_clear units 1 (omega arith) h.units)
     (clear_both (numbered reach_line 1 m.reach) last (lines_clear reach_line (is_reach (length m.classes)) (λ i r fits is. reach_clear (length m.classes) i r fewer fits is) m.reach 1 (omega arith) p.each)
     (clear_both (map edge_line es) (end_line ∷ []) (edges_clear (length units) es few h.edges) refl)))
 

@@ -14,11 +14,11 @@ use Rattle.dep_record.proofs.FieldLaws.{class_said, units_said, reach_said, next
 
 -- ---- results
 
-pub went_on : {A B : Type 0} (r : Result A ℕ) (f : A → Result B ℕ) (y : B) → (r >>= f) ≡ Ok y → (x : A) × (r ≡ Ok x) × (f x ≡ Ok y)
+pub went_on : {A B F : Type 0} (r : Result A F) (f : A → Result B F) (y : B) → (r >>= f) ≡ Ok y → (x : A) × (r ≡ Ok x) × (f x ≡ Ok y)
 went_on (Ok x) f y h = (x, refl, h)
 went_on (Err e) f y h = absurd cc
 
-was_some : {A : Type 0} (o : Option A) (n : ℕ) (x : A) → ok_or o n ≡ Ok x → o ≡ Some x
+pub was_some : {A F : Type 0} (o : Option A) (n : F) (x : A) → ok_or o n ≡ Ok x → o ≡ Some x
 was_some None n x h = absurd cc
 was_some (Some y) n x h = cc
 

@@ -189,7 +189,7 @@ fn number_first(text: &[u8]) -> Option<(u32, &[u8])>
 }
 
 /// What a line says of a conflict.
-#[derive(Clone, Copy, Debug)]
+#[derive(Clone, Copy)]
 pub struct EdgeLine<'a> {
     pub earlier: u32,
     pub later: u32,
