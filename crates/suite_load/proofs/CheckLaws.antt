@@ -29,9 +29,7 @@ untyped_goes sums suite classes lines p e same (cycle, by) h =
 -- the class files link, and the program isn't typed
 pub not_typed : (suite : SuiteText) (classes : List ClassParts) (lines : TestLines) (p : Program) (e : CheckFault) → lines ≡ lines_of suite → Links classes lines (Ok p) → ((e ≡ checking.NoMemory → ⊥) → check_fault p ≡ Some e) → Checks suite classes (Err (check_answer e))
 not_typed suite classes lines p checking.NoMemory same l h = λ sums. tt
-not_typed suite classes lines p (checking.Rule class method pc rule) same l h = λ sums. untyped_goes sums suite classes lines p (checking.Rule class method pc rule) same l (h (λ q. cc))
-not_typed suite classes lines p (checking.NoFrame class method pc) same l h = λ sums. untyped_goes sums suite classes lines p (checking.NoFrame class method pc) same l (h (λ q. cc))
-not_typed suite classes lines p (checking.Unsupported class member) same l h = λ sums. untyped_goes sums suite classes lines p (checking.Unsupported class member) same l (h (λ q. cc))
+not_typed suite classes lines p e same l h = λ sums. untyped_goes sums suite classes lines p e same l (h (λ q. cc))
 
 fault_goes : (sums : SuiteText → Prints) (suite : SuiteText) (classes : List ClassParts) (lines : TestLines) (f : LinkFault) → lines ≡ lines_of suite → ((cycle : Option ℕ) × LinksBy cycle classes lines (Err f)) → ReadGives sums (Ok (suite, classes)) (Err (link_fault suite f))
 unfolding checked_of
@@ -40,9 +38,4 @@ fault_goes sums suite classes lines f same (cycle, by) = (cycle, Err f, subst (�
 -- the class files don't link
 pub not_linked : (suite : SuiteText) (classes : List ClassParts) (lines : TestLines) (f : LinkFault) → lines ≡ lines_of suite → Links classes lines (Err f) → Checks suite classes (Err (link_fault suite f))
 not_linked suite classes lines linking.NoMemory same h = λ sums. tt
-not_linked suite classes lines (linking.Duplicate class) same h = λ sums. fault_goes sums suite classes lines (linking.Duplicate class) same h
-not_linked suite classes lines (linking.Missing class name) same h = λ sums. fault_goes sums suite classes lines (linking.Missing class name) same h
-not_linked suite classes lines (linking.Cycle class) same h = λ sums. fault_goes sums suite classes lines (linking.Cycle class) same h
-not_linked suite classes lines (linking.NoMember class index) same h = λ sums. fault_goes sums suite classes lines (linking.NoMember class index) same h
-not_linked suite classes lines (linking.WrongKind class index) same h = λ sums. fault_goes sums suite classes lines (linking.WrongKind class index) same h
-not_linked suite classes lines (linking.NotATest test) same h = λ sums. fault_goes sums suite classes lines (linking.NotATest test) same h
+not_linked suite classes lines f same h = λ sums. fault_goes sums suite classes lines f same h

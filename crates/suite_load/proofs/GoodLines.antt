@@ -42,12 +42,6 @@ is_fresh before names name t h =
     let a = went_on (tested (not (list_any (bytes_eq name) names)) (fault before why.Twice)) _ t h in
     (not-true _ (held _ _ a.0 a.1), ltb-true _ _ (held _ _ t a.2))
 
-is_placed : (before : List SuiteLine) (place : ℕ) (named : Bool) (t : Unit {0}) → placed before place named ≡ Ok t → named ≡ true
-unfolding placed
-is_placed before place named t h =
-    let a = went_on (tested (is_in_order before place) (fault before why.Order)) _ t h in
-    held _ _ t a.2
-
 budget_fits : (before : List SuiteLine) (rest : Option (List ℕ)) (line : SuiteLine) → budget_line before rest ≡ Ok line → Fits before line
 unfolding budget_line
 budget_fits before rest line h =
@@ -78,40 +72,29 @@ has_words : (number : ℕ) (name : List ℕ) (clock : ℤ) (seed : ℕ) → is_t
 unfolding test_from
 has_words number name clock seed h = and_from _ _ (method_is_word name h) (class_is_words name h)
 
-test_of_fits : (before : List SuiteLine) (name : List ℕ) (fields : List ℕ × List ℕ) (test : TestLine) → test_of before name fields ≡ Ok test → Fits before (Test test)
-unfolding test_of
-test_of_fits before name fields test h =
-    let a = went_on (placed before 4 (is_test_name name)) _ test h in
-    let b = went_on (stream_of before fields) _ test a.2 in
-    let d = went_on (fresh before (test_names before) name) _ test b.2 in
-    let same : test_from (length before + 1) name b.0.0 b.0.1 ≡ test = cc in
-    ((is_fresh before (test_names before) name d.0 d.1).1, subst HasWords same (has_words (length before + 1) name b.0.0 b.0.1 (is_placed before 4 (is_test_name name) a.0 a.1)))
-
 test_fits : (before : List SuiteLine) (rest : Option (List ℕ)) (line : SuiteLine) → test_line before rest ≡ Ok line → Fits before line
-unfolding test_line
+unfolding test_line test_of placed
 test_fits before rest line h =
     let a = went_on (ok_or rest (fault before why.Form)) _ line h in
+    let name = (cut 32 a.0).0 in
     let b = went_on (stream_fields before (cut 32 a.0).1) _ line a.2 in
-    let d = went_on (test_of before (cut 32 a.0).0 b.0) _ line b.2 in
-    subst (Fits before) (same_line line (Test d.0) d.2) (test_of_fits before (cut 32 a.0).0 b.0 d.0 d.1)
-
-end_fits : (before : List SuiteLine) (rest : Option (List ℕ)) (line : SuiteLine) → end_line before rest ≡ Ok line → Fits before line
-unfolding end_line
-end_fits before None line h = subst (Fits before) (same_line line End h) tt
-end_fits before (Some bytes) line h = absurd cc
-
-no_header : (before : List SuiteLine) (rest : Option (List ℕ)) (line : SuiteLine) → second_header before rest ≡ Ok line → ⊥
-unfolding second_header
-no_header before rest line h = let a = went_on (one_field before rest) _ line h in let e = a.2 in cc
+    let t = went_on (test_of before name b.0) _ line b.2 in
+    let d = went_on (placed before 4 (is_test_name name)) _ t.0 t.1 in
+    let named = went_on (tested (is_in_order before 4) (fault before why.Order)) _ d.0 d.1 in
+    let e = went_on (stream_of before b.0) _ t.0 d.2 in
+    let f = went_on (fresh before (test_names before) name) _ t.0 e.2 in
+    let same : test_from (length before + 1) name e.0.0 e.0.1 ≡ t.0 = cc in
+    subst (Fits before) (same_line line (Test t.0) t.2) ((is_fresh before (test_names before) name f.0 f.1).1, subst HasWords same (has_words (length before + 1) name e.0.0 e.0.1 (held _ _ d.0 named.2)))
 
 word_fits : (word : FirstWord) (before : List SuiteLine) (rest : Option (List ℕ)) (line : SuiteLine) → line_of word before rest ≡ Ok line → Fits before line
-unfolding line_of
-word_fits words.Header before rest line h = absurd (no_header before rest line h)
+unfolding line_of second_header end_line
+word_fits words.Header before rest line h = let a = went_on (one_field before rest) _ line h in let e = a.2 in absurd cc
 word_fits words.Budget before rest line h = budget_fits before rest line h
 word_fits words.Class before rest line h = class_fits before rest line h
 word_fits words.File before rest line h = file_fits before rest line h
 word_fits words.Test before rest line h = test_fits before rest line h
-word_fits words.End before rest line h = end_fits before rest line h
+word_fits words.End before None line h = subst (Fits before) (same_line line End h) tt
+word_fits words.End before (Some bytes) line h = absurd cc
 word_fits words.Other before rest line h = absurd cc
 
 later_fits : (before : List SuiteLine) (row : Row) (line : SuiteLine) → later_line before row ≡ Ok line → Fits before line
@@ -177,9 +160,6 @@ has_none files name new i lt e =
     let same : bytes_eq name (get_or (map (λ (f : FileLine). f.name) files) i []) ≡ true = ap (bytes_eq name) named ∙ (bytes_eq-Decides name name).1 refl in
     both_ways _ new (list_any_at (bytes_eq name) (map (λ (f : FileLine). f.name) files) i [] there same)
 
-good_class : (suite : SuiteText) (name : List ℕ) → IsGood suite → length suite.classes < 1024 → IsGood (added suite (Class name))
-good_class suite name g few = record { few_classes = omega (arith, length_push suite.classes name); lines = record { few_tests = g.lines.few_tests; few_files = g.lines.few_files; names = g.lines.names; files = g.lines.files; budget = g.lines.budget } }
-
 good_file : (suite : SuiteText) (name content : List ℕ) → IsGood suite → list_any (bytes_eq name) (map (λ f. f.name) suite.files) ≡ false → length suite.files < 1024 → IsGood (added suite (File name content))
 good_file suite name content g new few =
     let file : FileLine = record { name = name; content = content } in
@@ -209,14 +189,11 @@ good_test suite test g few named =
       };
     }
 
-good_budget : (suite : SuiteText) (units : ℕ) → IsGood suite → (0 < units) × (units ≤ 67108864) → IsGood (added suite (Budget units))
-unfolding suite_limit
-good_budget suite units g h = record { few_classes = g.few_classes; lines = record { few_tests = g.lines.few_tests; few_files = g.lines.few_files; names = g.lines.names; files = g.lines.files; budget = h } }
-
 good_more : (before : List SuiteLine) (line : SuiteLine) → IsGood (suite_from before) → Fits before line → IsGood (added (suite_from before) line)
+unfolding suite_limit
 good_more before Header g h = g
-good_more before (Budget units) g h = good_budget (suite_from before) units g h
-good_more before (Class name) g h = good_class (suite_from before) name g h
+good_more before (Budget units) g h = record { few_classes = g.few_classes; lines = record { few_tests = g.lines.few_tests; few_files = g.lines.few_files; names = g.lines.names; files = g.lines.files; budget = h } }
+good_more before (Class name) g h = record { few_classes = omega (arith, length_push (suite_from before).classes name, h); lines = g.lines }
 good_more before (File name content) g h = good_file (suite_from before) name content g h.0 (omega (arith, h.1, length-map (suite_from before).files (λ f. f.name)))
 good_more before (Test test) g h = good_test (suite_from before) test g (omega (arith, h.0, length-map (suite_from before).tests (λ t. t.name))) h.1
 good_more before End g h = g

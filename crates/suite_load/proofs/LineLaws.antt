@@ -1,32 +1,24 @@
 -- The lines of a text, one by one.
 use Rattle.std.proofs.Common.{◌≡◌, ℕ, ◌+◌, ◌<◌, ◌≤◌, ◌⊎◌, Bool, true, false, eqb, List, [], ◌∷◌, ◌++◌, length, Result, Ok, Err, refl, sym, ap, ◌∙◌, inl, inr, arith}
-use Rattle.std.specs.List.{slice_split, position_or_len, before_first, after_first}
+use Rattle.std.specs.List.{count_by, slice_split, position_or_len, before_first, after_first}
 use Rattle.std.proofs.lemmas.{Bool.cases_lt, Bool.lt-ltb, Bool.le-ltb, Bool.eqb-true, List.length-drop}
-use Rattle.std.proofs.{lemmas.List.Splits.slice_split_first, lemmas.List.Splits.slice_split_none, lemmas.List.Sums.fails_before_first}
+use Rattle.std.proofs.lemmas.List.{Splits.length-slice_split, Splits.slice_split_first, Splits.slice_split_none, Sums.fails_before_first}
 use Rattle.suite_load.specs.declared.suite_line.SuiteLine.{SuiteLine}
 use Rattle.suite_load.specs.declared.suite_text.{SuiteRefusal.SuiteRefusal, SuiteRefusal.TheVariants.Suite, SuiteRefusal.TheVariants.NoMemory}
 use Rattle.suite_load.specs.LineForms.{cut, rows, rows_of_pieces, first_row, rest_of}
 use Rattle.suite_load.specs.Reading.{◌>>=◌, Fails, tested}
 use Rattle.suite_load.specs.SuiteForm.{next_line, lines_from, line_at, whole, is_ended, fault, missing}
 
--- a text has a first piece
-pieces_are : (p : ℕ → Bool) (xs : List ℕ) → (first : List ℕ) × (more : List (List ℕ)) × (slice_split p xs ≡ first ∷ more)
-pieces_are p [] = ([], [], refl)
-pieces_are p (x ∷ xs) = by (p x) refl (pieces_are p xs)
-  where
-    by : (b : Bool) → p x ≡ b → ((first : List ℕ) × (more : List (List ℕ)) × (slice_split p xs ≡ first ∷ more)) → (first : List ℕ) × (more : List (List ℕ)) × (slice_split p (x ∷ xs) ≡ first ∷ more)
-    by true e rest = ([], slice_split p xs, rw e refl)
-    by false e rest = (x ∷ rest.0, rest.1, rw (e, rest.2) refl)
-
-first_ended : (p : ℕ → Bool) (piece xs : List ℕ) → rows_of_pieces (piece ∷ slice_split p xs) ≡ record { bytes = piece; ended = true } ∷ rows_of_pieces (slice_split p xs)
-first_ended p piece xs = let s = pieces_are p xs in rw s.2 refl
+first_ended : (piece : List ℕ) (pieces : List (List ℕ)) (n : ℕ) → length pieces ≡ n + 1 → rows_of_pieces (piece ∷ pieces) ≡ record { bytes = piece; ended = true } ∷ rows_of_pieces pieces
+first_ended piece [] n h = absurd (omega (arith, h))
+first_ended piece (next ∷ more) n h = refl
 
 abbrev newline : ℕ → Bool
 newline b = eqb b 10
 
 by_place : (text : List ℕ) → eqb (length text) 0 ≡ false → (position_or_len newline text < length text) ⊎ (length text ≤ position_or_len newline text) → rows text ≡ first_row text ∷ rows (rest_of text)
 unfolding rows cut
-by_place text some (inl lt) = rw (slice_split_first newline text 0 lt, lt-ltb _ _ lt) (first_ended newline (before_first newline text) (after_first newline text))
+by_place text some (inl lt) = rw (slice_split_first newline text 0 lt, lt-ltb _ _ lt) (first_ended (before_first newline text) (slice_split newline (after_first newline text)) (count_by newline (after_first newline text)) (length-slice_split newline (after_first newline text)))
 by_place text some (inr le) = rw (slice_split_none newline text (λ k d h. fails_before_first newline text k d (omega arith)), le-ltb _ _ le, some) refl
 
 -- the first line, and the lines after it

@@ -1,5 +1,6 @@
 -- Refusals of loading, and its parts joined.
 use Rattle.std.proofs.Common.{◌≡◌, ◌≤◌, ◌<◌, ℕ, ◌+◌, List, [], ◌∷◌, ◌++◌, length, map, take, drop, get_or, Option, Some, None, Result, Ok, Err, IfSome, refl, sym, ap, ◌∙◌, subst}
+use Rattle.std.proofs.lemmas.Option.{IfSome_then}
 use Rattle.std.proofs.lemmas.List.{take_more, take_all, take-append-drop, drop_more, append_assoc, append-nil, map-append}
 use Rattle.et_base.specs.Answers.{Fails}
 use Rattle.outside.specs.Depot.{Files, OfHeld, DepotView, FailedAt}
@@ -15,11 +16,7 @@ use Rattle.suite_load.specs.{LoadAnswers.says, LoadAnswers.IsProper, LoadAnswers
 
 -- ---- refusals
 
-pub refuses_weaker : (P Q : LoadFault → Type 0) (o : Option LoadFault) → ((f : LoadFault) → P f → Q f) → IfSome o P → IfSome o Q
-refuses_weaker P Q None h r = tt
-refuses_weaker P Q (Some f) h r = h f r
-
--- the same of what a definition gives
+-- what is said of the fault that a definition gives
 pub fails_on : {X : Type 0} (P : LoadFault → Type 0) (o : Option LoadFault) (given : Result X LoadFault) → ((f : LoadFault) → given ≡ Err f → P f) → Fails o given → IfSome o P
 fails_on P None given h r = tt
 fails_on P (Some f) given h r = h f r
@@ -30,14 +27,8 @@ fails_weaker (Some f) given part h r = h f r
 
 -- what is said of a fault of a part is said of it in the whole
 pub proper_weaker : (P Q : List ℕ → Type 0) (e : LoadFault) → ((read : List ℕ) → P read → Q read) → IsProper P e → IsProper Q e
-proper_weaker P Q fault.NoMemory h r = tt
 proper_weaker P Q (fault.Depot name) h r = h name r
-proper_weaker P Q (fault.Absent name) h r = tt
-proper_weaker P Q (fault.TooLarge name) h r = tt
-proper_weaker P Q (fault.Suite line why) h r = tt
-proper_weaker P Q (fault.Class name f) h r = r
-proper_weaker P Q (fault.Link f) h r = r
-proper_weaker P Q (fault.Check f) h r = r
+proper_weaker P Q e h r = r
 
 -- a depot that failed late failed
 failed_later : (first old new : DepotView) (name : List ℕ) → first.faults ≤ old.faults → FailedAt old new name → FailedAt first new name
@@ -99,10 +90,6 @@ so_far_proper names i name classes now e first old new lt at h le d =
 
 -- ---- loading as a whole
 
-read_done : (files : Files) (name : List ℕ) (suite : SuiteText) (classes : List ClassParts) → suite_in files name ≡ Ok suite → classes_in files 0 suite.classes ≡ Ok classes → read_in files name ≡ Ok (suite, classes)
-unfolding read_in
-read_done files name suite classes e h = ap (λ r. r >>= λ s. classes_in files 0 s.classes >>= λ cs. Ok (s, cs)) e ∙ ap (λ r. r >>= λ cs. Ok (suite, cs)) h
-
 -- the suite text isn't read
 pub unread_suite : (files : Files) (name : List ℕ) (e : LoadFault) → Fails (says e) (suite_in files name) → LoadAnswers files name (Err e)
 unfolding read_in
@@ -121,11 +108,11 @@ unread_class files name suite names e n s h =
 
 -- the files are read
 pub all_read : (files : Files) (name : List ℕ) (suite : SuiteText) (names : List (List ℕ)) (classes : List ClassParts) → names ≡ suite.classes → suite_in files name ≡ Ok suite → classes_in files 0 names ≡ Ok classes → read_in files name ≡ Ok (suite, classes)
-all_read files name suite names classes n s h = read_done files name suite classes s (ap (classes_in files 0) (sym n) ∙ h)
+unfolding read_in
+all_read files name suite names classes n s h = ap (λ r. r >>= λ t. classes_in files 0 t.classes >>= λ cs. Ok (t, cs)) s ∙ ap (λ r. r >>= λ cs. Ok (suite, cs)) (ap (classes_in files 0) (sym n) ∙ h)
 
 pub not_checked : (files : Files) (name : List ℕ) (suite : SuiteText) (classes : List ClassParts) (e : LoadFault) → read_in files name ≡ Ok (suite, classes) → Checks suite classes (Err e) → LoadAnswers files name (Err e)
-not_checked files name suite classes e r h = refuses_weaker (λ f. ReadGives (sums_in files name) (Ok (suite, classes)) (Err f)) (λ f. Loads files name (Err f)) (says e)
-    (λ f k. subst (λ x. ReadGives (sums_in files name) x (Err f)) (sym r) k) (h (sums_in files name))
+not_checked files name suite classes e r h = IfSome_then (says e) (h (sums_in files name)) (λ f k. subst (λ x. ReadGives (sums_in files name) x (Err f)) (sym r) k)
 
 pub loads_all : (files : Files) (name : List ℕ) (suite : SuiteText) (classes : List ClassParts) (p q : Program) (names : Names) (prints : Prints) → names ≡ names_in suite q → q ≡ p → read_in files name ≡ Ok (suite, classes) →
     prints ≡ sums_in files name suite → Checks suite classes (Ok p) → LoadAnswers files name (Ok (record { checked = p; names = names; prints = prints }))

@@ -1,9 +1,9 @@
 -- The class and the method of a test's name are words.
 use Rattle.std.proofs.Common.{◌≡◌, ℕ, zero, suc, ◌+◌, ◌-◌, ◌<◌, ◌≤◌, ◌==◌, Bool, true, false, not, cond, ◌||◌, nat_eq, List, [], ◌∷◌, length, map, take, drop, reverse, get_or, refl, sym, ap, ◌∙◌, inl, inr, arith}
-use Rattle.std.specs.List.{list_all, slice_split, onto_first, suffix_len, AllPass}
-use Rattle.std.proofs.lemmas.Bool.{and_parts, and_from, or_cases, or_left, or_right, both_ways, not-true}
-use Rattle.std.proofs.{lemmas.Bool.Decides.nat_tests, lemmas.List.Splits.slice_split-cons_yes, lemmas.List.Splits.slice_split-cons_no}
-use Rattle.std.proofs.lemmas.List.{get_or-drop, get_or-reverse, length-drop}
+use Rattle.std.specs.List.{list_all, slice_split, join_with_byte, suffix_len, AllPass}
+use Rattle.std.proofs.lemmas.Bool.{and_parts, and_from, or_cases, or_left, both_ways, not-true}
+use Rattle.std.proofs.lemmas.{Bool.Decides.nat_tests, List.Folds.list_all-append, List.Splits.join_with_byte-slice_split}
+use Rattle.std.proofs.lemmas.List.{get_or-drop, get_or-reverse, length-drop, take-append-drop}
 use Rattle.std.proofs.lemmas.List.Sums.{AllPass-from_list_all, list_all-from_AllPass, prefix_len_passes, suffix_len-le-length}
 use Rattle.jvm_model.specs.Linked.{is_word}
 use Rattle.suite_load.specs.NameForms.{is_word_byte, is_identifier, is_test_name}
@@ -23,47 +23,25 @@ is_class_unit u = is_word u || nat_eq u 47
 word_is : (b : ℕ) → is_word_byte b ≡ true → is_word b ≡ true
 word_is b h = grind (arith, nat_tests)
 
-parts_have_words : (parts : List (List ℕ)) → list_all is_identifier parts ≡ true → list_all (list_all is_word_byte) parts ≡ true
+-- a word of bytes, and words that are joined by dots
+word_bytes : (bs : List ℕ) → list_all is_word_byte bs ≡ true → list_all is_name_byte bs ≡ true
+word_bytes [] h = refl
+word_bytes (b ∷ bs) h = let a = and_parts _ _ h in and_from _ _ (or_left _ _ a.0) (word_bytes bs a.1)
+
+joined_bytes : (parts : List (List ℕ)) → list_all is_identifier parts ≡ true → list_all is_name_byte (join_with_byte 46 parts) ≡ true
 unfolding is_identifier
-parts_have_words [] h = refl
-parts_have_words (part ∷ parts) h =
+joined_bytes [] h = refl
+joined_bytes (part ∷ []) h = word_bytes part (and_parts _ _ (and_parts _ _ h).0).1
+joined_bytes (part ∷ next ∷ more) h =
     let a = and_parts _ _ h in
-    and_from _ _ (and_parts _ _ a.0).1 (parts_have_words parts a.1)
-
-all_parts : {A : Type 0} (p : A → Bool) (x : A) (xs : List A) → list_all p (x ∷ xs) ≡ true → (p x ≡ true) × (list_all p xs ≡ true)
-all_parts p x xs h = and_parts (p x) (list_all p xs) h
-
-all_from : {A : Type 0} (p : A → Bool) (x : A) (xs : List A) → p x ≡ true → list_all p xs ≡ true → list_all p (x ∷ xs) ≡ true
-all_from p x xs h hs = and_from (p x) (list_all p xs) h hs
-
--- a name whose first part begins with b
-first_grows : (b : ℕ) (bs : List ℕ) (parts : List (List ℕ)) → list_all (list_all is_word_byte) (onto_first b parts) ≡ true → (list_all (list_all is_word_byte) parts ≡ true → list_all is_name_byte bs ≡ true) → list_all is_name_byte (b ∷ bs) ≡ true
-first_grows b bs [] h more =
-    let a = all_parts (list_all is_word_byte) (b ∷ []) [] h in
-    let f = all_parts is_word_byte b [] a.0 in
-    all_from is_name_byte b bs (or_left (is_word_byte b) (is_dot b) f.0) (more refl)
-first_grows b bs (part ∷ parts) h more =
-    let a = all_parts (list_all is_word_byte) (b ∷ part) parts h in
-    let f = all_parts is_word_byte b part a.0 in
-    all_from is_name_byte b bs (or_left (is_word_byte b) (is_dot b) f.0) (more (all_from (list_all is_word_byte) part parts f.1 a.1))
-
--- the parts and the dots are all of a name
-bytes_of_parts : (name : List ℕ) → list_all (list_all is_word_byte) (slice_split is_dot name) ≡ true → list_all is_name_byte name ≡ true
-bytes_of_parts [] h = refl
-bytes_of_parts (b ∷ bs) h = by (is_dot b) refl (bytes_of_parts bs)
-  where
-    by : (dot : Bool) → is_dot b ≡ dot → (list_all (list_all is_word_byte) (slice_split is_dot bs) ≡ true → list_all is_name_byte bs ≡ true) → list_all is_name_byte (b ∷ bs) ≡ true
-    by true e more = all_from is_name_byte b bs (or_right (is_word_byte b) (is_dot b) e) (more (sym (ap (list_all (list_all is_word_byte)) (slice_split-cons_yes is_dot b bs e)) ∙ h))
-    by false e more = first_grows b bs (slice_split is_dot bs) (sym (ap (list_all (list_all is_word_byte)) (slice_split-cons_no is_dot b bs e)) ∙ h) more
+    list_all-append is_name_byte part (46 ∷ join_with_byte 46 (next ∷ more)) ∙ and_from _ _ (word_bytes part (and_parts _ _ a.0).1) (joined_bytes (next ∷ more) a.1)
 
 name_bytes : (name : List ℕ) → is_test_name name ≡ true → list_all is_name_byte name ≡ true
 unfolding is_test_name
-name_bytes name h = bytes_of_parts name (parts_have_words _ (and_parts _ _ h).1)
+name_bytes name h = sym (ap (list_all is_name_byte) (join_with_byte-slice_split 46 name)) ∙ joined_bytes (slice_split is_dot name) (and_parts _ _ h).1
 
 front_passes : {A : Type 0} (p : A → Bool) (n : ℕ) (xs : List A) → list_all p xs ≡ true → list_all p (take n xs) ≡ true
-front_passes p zero xs h = refl
-front_passes p (suc n) [] h = refl
-front_passes p (suc n) (x ∷ xs) h = let a = all_parts p x xs h in all_from p x (take n xs) a.0 (front_passes p n xs a.1)
+front_passes p n xs h = (and_parts _ _ (sym (list_all-append p (take n xs) (drop n xs)) ∙ ap (list_all p) (take-append-drop n xs) ∙ h)).0
 
 word_unless_dot : (b : ℕ) → is_name_byte b ≡ true → is_dot b ≡ false → is_word b ≡ true
 word_unless_dot b h e = elim (or_cases (is_word_byte b) (is_dot b) h) [ inl w ↦ word_is b w | inr d ↦ absurd (both_ways (is_dot b) e d) ]
@@ -77,7 +55,7 @@ class_unit b h = by (is_dot b) refl
 
 class_units : (bytes : List ℕ) → list_all is_name_byte bytes ≡ true → list_all is_class_unit (map slash_for_dot bytes) ≡ true
 class_units [] h = refl
-class_units (b ∷ bs) h = let a = all_parts is_name_byte b bs h in all_from is_class_unit (slash_for_dot b) (map slash_for_dot bs) (class_unit b a.0) (class_units bs a.1)
+class_units (b ∷ bs) h = let a = and_parts _ _ h in and_from _ _ (class_unit b a.0) (class_units bs a.1)
 
 pub class_is_words : (name : List ℕ) → is_test_name name ≡ true → list_all is_class_unit (test_class name) ≡ true
 unfolding test_class

@@ -1,3 +1,5 @@
+use Rattle.std.proofs.Common.{sym, subst}
+use Rattle.class_link.specs.Link.{AreLines}
 use Rattle.suite_load.proofs.{CheckLaws.linked_goes, CheckLaws.not_linked, CheckLaws.not_typed, LinkedCounts.tests_linked, LinkedCounts.classes_linked}
 use Rattle.suite_load.proofs.linking.program_of.Goals as goal
 
@@ -15,7 +17,7 @@ returns-clause-gives c = rw c.check_fault.ensures.named (not_typed c.args.suite.
 pub returns-in-Ok-check-clause-count : goal.returns-in-Ok-check-clause-count
 returns-in-Ok-check-clause-count c =
     let good = c.in-Ok-check.ensures.good in
-    tests_linked c.args.suite.now c.args.classes.now c.in_ok-lines.lines c.in-Ok.program c.in-Ok-check.checked c.in_ok-lines.ensures c.in-Ok.ensures.links good.0
+    tests_linked c.args.suite.now c.args.classes.now c.in_ok-lines.lines c.in-Ok.program c.in-Ok-check.checked (subst AreLines (sym c.in_ok-lines.ensures) c.requires.lines) c.in_ok-lines.ensures c.in-Ok.ensures.links good.0
 
 pub returns-in-Ok-check-clause-classes : goal.returns-in-Ok-check-clause-classes
 returns-in-Ok-check-clause-classes c =
