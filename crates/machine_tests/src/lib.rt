@@ -1,11 +1,12 @@
 //! Tests of what no command does with the machine and its memories.
 //!
-//! Begin with `suites.rt`, which loads three suites from files in memory, and `memories.rt`, which
-//! runs their tests over each memory: no command runs over `PlainMemory` or `TraceMemory`.
+//! Begin with `suites.rt`, which loads three suites from files in memory and asks a `Question` of
+//! one, and `memories.rt`, which runs their tests over each memory: no command runs over
+//! `PlainMemory` or `TraceMemory`.
 //!
 //! - `resets.rt` sets a machine back after a refusal, and goes on with it.
 //! - `steps.rt`, `rows.rt`, `tables.rt` and `stack_maps.rt` make single calls of the machine and of
-//!   the check; `parts.rt` has what the first two work on.
+//!   the check.
 //!
 //! What these calls answer is compared with what a report on the suites says, or with the bytecode.
 //!
@@ -15,8 +16,6 @@
 
 #[cfg(test)]
 mod memories;
-#[cfg(test)]
-mod parts;
 #[cfg(test)]
 mod resets;
 #[cfg(test)]

@@ -1,11 +1,12 @@
 //! The tests of a suite over each memory, and on a machine that is set back.
 
 ghost use Rattle.std.specs.Prelude.{◌≡◌, ◌<◌, false, OnOk};
-ghost use Rattle.jvm_model.specs.Suite.{opening};
 
-use crate::suites::{COUNTER_FILES, COUNTER_LINES, M_FILES, M_LINES, R_FILES, R_LINES, loaded};
-use et_base::Text;
-use jvm_model::Location;
+use crate::suites::{
+    COUNTER_FILES, COUNTER_LINES, M_FILES, M_LINES, Question, R_FILES, R_LINES, is_so,
+};
+use et_base::{NoMemory, Text};
+use jvm_model::{Location, Program};
 use outside::Steps;
 use std::alloc::Global;
 use std::marker::Brand;
@@ -43,18 +44,20 @@ fn run_all<M: Memory, L: Ledger>(
     Ok(lines)
 }
 
-/// The lines in a report of all tests, run in order on a machine that is not spent.
-pub fn lines_on<M: Memory>(
+/// Whether all tests, run in order on a machine that is not spent, have these lines in a report.
+pub fn reports<M: Memory>(
     alloc: Global,
     loaded: &Loaded,
     machine: &mut Machine<'_, M>,
-) -> Result<Text, RunFault>
+    lines: &[u8],
+) -> Result<bool, RunFault>
     requires of { machine.old.program ≡ loaded.now.checked }
     requires ready { machine.old.spent ≡ false }
     ensures of { machine.new.program ≡ loaded.now.checked }
     ensures ready { OnOk result (machine.new.spent ≡ false) }
 {
-    run_all::<M, Brand>(alloc, loaded, machine, Blank::new(1))
+    let report = run_all::<M, Brand>(alloc, loaded, machine, Blank::new(1))?;
+    Ok(report.as_slice() == lines)
 }
 
 /// What is tried on a machine that is not spent.
@@ -72,18 +75,46 @@ pub trait Trial<M: Memory> {
         requires ready { machine.old.spent ≡ false };
 }
 
-// What a trial on a new machine over a memory answers.
-fn passes_over<M: Memory, T: Trial<M>>(
+/// A memory that is made before the first test.
+pub trait Opened: Memory {
+    ghost use Rattle.std.specs.Prelude.{◌≡◌, IfOk};
+    ghost use Rattle.jvm_model.specs.{Linked.Linked, Suite.opening};
+
+    /// The memory of a linked program before its first test.
+    fn opened(alloc: Global, p: &Program) -> Result<Self, NoMemory>
+        requires { Linked p.now }
+        ensures program { IfOk result (λ m. Self.program m ≡ p.now) }
+        ensures world { IfOk result (λ m. Self.world m ≡ opening p.now) };
+}
+
+impl Opened for RegionMemory {
+    fn opened(alloc: Global, p: &Program) -> Result<RegionMemory, NoMemory> {
+        RegionMemory::opening(alloc, p)
+    }
+}
+
+impl Opened for PlainMemory {
+    fn opened(alloc: Global, p: &Program) -> Result<PlainMemory, NoMemory> {
+        PlainMemory::opening(alloc, p)
+    }
+}
+
+impl Opened for TraceMemory {
+    fn opened(alloc: Global, p: &Program) -> Result<TraceMemory, NoMemory> {
+        TraceMemory::opening(alloc, p)
+    }
+}
+
+/// What a trial on a new machine over a memory answers. It alone owns a machine.
+pub fn passes_over<M: Opened, T: Trial<M>>(
     alloc: Global,
     loaded: &Loaded,
-    memory: M,
     trial: &T,
 ) -> Result<bool, RunFault>
 where
     M: Drop,
-    requires program { M.program memory ≡ loaded.now.checked }
-    requires world { M.world memory ≡ opening loaded.now.checked }
 {
+    let memory = M::opened(alloc, loaded.checked.program())?;
     let mut machine = Machine::new(alloc, &loaded.checked, 1, memory)?;
     trial.passes(alloc, loaded, &mut machine)
 }
@@ -99,59 +130,35 @@ impl<M: Memory> Trial<M> for Lines {
         loaded: &Loaded,
         machine: &mut Machine<'_, M>,
     ) -> Result<bool, RunFault> {
-        let lines = lines_on(alloc, loaded, machine)?;
-        Ok(lines.as_slice() == self.0)
+        reports(alloc, loaded, machine, self.0)
     }
-}
-
-/// What a trial answers over the memory of the commands.
-pub fn passes_over_region<T: Trial<RegionMemory>>(
-    alloc: Global,
-    loaded: &Loaded,
-    trial: &T,
-) -> Result<bool, RunFault> {
-    let memory = RegionMemory::opening(alloc, loaded.checked.program())?;
-    passes_over(alloc, loaded, memory, trial)
-}
-
-// What a trial answers over the memory of the definition's world.
-fn passes_over_plain<T: Trial<PlainMemory>>(
-    alloc: Global,
-    loaded: &Loaded,
-    trial: &T,
-) -> Result<bool, RunFault> {
-    let memory = PlainMemory::opening(alloc, loaded.checked.program())?;
-    passes_over(alloc, loaded, memory, trial)
-}
-
-// What a trial answers over the memory that notes touches.
-fn passes_over_trace<T: Trial<TraceMemory>>(
-    alloc: Global,
-    loaded: &Loaded,
-    trial: &T,
-) -> Result<bool, RunFault> {
-    let memory = TraceMemory::opening(alloc, loaded.checked.program())?;
-    passes_over(alloc, loaded, memory, trial)
 }
 
 // Whether the tests of a suite have these lines over each memory.
 fn are_over_each(alloc: Global, loaded: &Loaded, lines: &Lines) -> Result<bool, RunFault> {
     Ok(
-        passes_over_region(alloc, loaded, lines)?
-            && passes_over_plain(alloc, loaded, lines)?
-            && passes_over_trace(alloc, loaded, lines)?,
+        passes_over::<RegionMemory, Lines>(alloc, loaded, lines)?
+            && passes_over::<PlainMemory, Lines>(alloc, loaded, lines)?
+            && passes_over::<TraceMemory, Lines>(alloc, loaded, lines)?,
     )
+}
+
+impl Question for Lines {
+    fn holds(&self, alloc: Global, suite: &Loaded) -> Result<bool, Fail> {
+        Ok(are_over_each(alloc, suite, self)?)
+    }
+}
+
+// Whether the tests of each suite have its lines over each memory.
+fn are_of_each(alloc: Global) -> Result<bool, Fail> {
+    Ok(is_so(alloc, &COUNTER_FILES, &Lines(COUNTER_LINES))?
+        && is_so(alloc, &R_FILES, &Lines(R_LINES))?
+        && is_so(alloc, &M_FILES, &Lines(M_LINES))?)
 }
 
 #[test]
 fn reports_are_the_same_over_each_memory(rt: HostRuntime) -> Result<(), Fail> {
-    let alloc = rt.alloc();
-    let counter = loaded(alloc, &COUNTER_FILES)?;
-    assert!(rt; are_over_each(alloc, &counter, &Lines(COUNTER_LINES))?);
-    let recursion = loaded(alloc, &R_FILES)?;
-    assert!(rt; are_over_each(alloc, &recursion, &Lines(R_LINES))?);
-    let each_kind = loaded(alloc, &M_FILES)?;
-    assert!(rt; are_over_each(alloc, &each_kind, &Lines(M_LINES))?);
+    assert!(rt; are_of_each(rt.alloc())?);
     Ok(())
 }
 
@@ -185,15 +192,21 @@ impl Trial<TraceMemory> for NotesCounter {
         loaded: &Loaded,
         machine: &mut Machine<'_, TraceMemory>,
     ) -> Result<bool, RunFault> {
-        let _lines = lines_on(alloc, loaded, machine)?;
-        Ok(are_of_counter(machine.memory().touches()))
+        let reported = reports(alloc, loaded, machine, COUNTER_LINES)?;
+        Ok(reported && are_of_counter(machine.memory().touches()))
+    }
+}
+
+impl Question for NotesCounter {
+    fn holds(&self, alloc: Global, suite: &Loaded) -> Result<bool, Fail> {
+        Ok(passes_over::<TraceMemory, NotesCounter>(
+            alloc, suite, self,
+        )?)
     }
 }
 
 #[test]
 fn touches_are_noted_by_test(rt: HostRuntime) -> Result<(), Fail> {
-    let alloc = rt.alloc();
-    let counter = loaded(alloc, &COUNTER_FILES)?;
-    assert!(rt; passes_over_trace(alloc, &counter, &NotesCounter)?);
+    assert!(rt; is_so(rt.alloc(), &COUNTER_FILES, &NotesCounter)?);
     Ok(())
 }

@@ -2,8 +2,8 @@
 
 ghost use Rattle.std.specs.Prelude.{◌≡◌, ◌<◌, ◌≤◌, false, length};
 
-use crate::memories::{Trial, lines_on, passes_over_region};
-use crate::suites::{COUNTER_FILES, COUNTER_LINES, loaded};
+use crate::memories::{Trial, passes_over, reports};
+use crate::suites::{COUNTER_FILES, COUNTER_LINES, Question, is_so};
 use outside::Steps;
 use std::alloc::Global;
 use std::marker::Brand;
@@ -39,26 +39,29 @@ impl Trial<RegionMemory> for LinesAgain {
         loaded: &Loaded,
         machine: &mut Machine<'_, RegionMemory>,
     ) -> Result<bool, RunFault> {
-        let first = lines_on(alloc, loaded, machine)?;
+        let first = reports(alloc, loaded, machine, self.0)?;
         machine.reset();
-        let again = lines_on(alloc, loaded, machine)?;
+        let again = reports(alloc, loaded, machine, self.0)?;
         if loaded.checked.program().tests.is_empty() {
             return Ok(false);
         }
         let refused = is_refused::<Brand>(machine, 2, Blank::new(1));
         machine.reset();
-        let last = lines_on(alloc, loaded, machine)?;
-        let same = first.as_slice() == self.0
-            && again.as_slice() == self.0
-            && last.as_slice() == self.0;
-        Ok(refused && same)
+        let last = reports(alloc, loaded, machine, self.0)?;
+        Ok(first && again && refused && last)
+    }
+}
+
+impl Question for LinesAgain {
+    fn holds(&self, alloc: Global, suite: &Loaded) -> Result<bool, Fail> {
+        Ok(passes_over::<RegionMemory, LinesAgain>(
+            alloc, suite, self,
+        )?)
     }
 }
 
 #[test]
 fn a_machine_that_is_set_back_reports_the_same(rt: HostRuntime) -> Result<(), Fail> {
-    let alloc = rt.alloc();
-    let counter = loaded(alloc, &COUNTER_FILES)?;
-    assert!(rt; passes_over_region(alloc, &counter, &LinesAgain(COUNTER_LINES))?);
+    assert!(rt; is_so(rt.alloc(), &COUNTER_FILES, &LinesAgain(COUNTER_LINES))?);
     Ok(())
 }

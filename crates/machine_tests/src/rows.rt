@@ -3,11 +3,11 @@
 ghost use Rattle.std.specs.Prelude.{◌≡◌, ◌<◌, length, true};
 ghost use Rattle.jvm_model.specs.{Classes.field_at, Classes.is_trivial, Suite.opening};
 
-use crate::parts::{Parts, parts_of};
-use crate::suites::{COUNTER_FILES, loaded};
+use crate::suites::{COUNTER_FILES, Question, is_so};
 use jvm_model::{Base, EntryKind, Instr, Kind, Next};
 use std::alloc::Global;
 use std::test::Fail;
+use suite_load::Loaded;
 use type_frames::Checked;
 use vm_frames::{FrameStack, PushFault};
 use vm_mem::PlainMemory;
@@ -78,11 +78,10 @@ fn makes_array(
 
 // Whether both go on in the last method of a program, which begins with a `getstatic` of the last
 // field.
-fn go_on(alloc: Global, parts: &mut Parts) -> Result<bool, PushFault>
-    requires program { parts.old.tables ≡ parts.old.memory.program }
-    requires world { parts.old.memory.world ≡ opening parts.old.tables }
+fn go_on(alloc: Global, tables: &Tables, memory: &mut PlainMemory) -> Result<bool, PushFault>
+    requires program { tables.now ≡ memory.old.program }
+    requires world { memory.old.world ≡ opening tables.now }
 {
-    let Parts { tables, memory, .. } = parts;
     let program = tables.program();
     let method = last_of(program.methods.len());
     let field = last_of(program.fields.len());
@@ -96,14 +95,24 @@ fn go_on(alloc: Global, parts: &mut Parts) -> Result<bool, PushFault>
 
 // The same of a program alone.
 fn rows_go_on(alloc: Global, checked: &Checked) -> Result<bool, PushFault> {
-    let mut parts = parts_of(alloc, checked)?;
-    go_on(alloc, &mut parts)
+    let program = checked.program();
+    let tables = Tables::of(alloc, program)?;
+    let mut memory = PlainMemory::opening(alloc, program)?;
+    go_on(alloc, &tables, &mut memory)
+}
+
+// Both rows go on.
+#[derive(Drop)]
+struct RowsGoOn;
+
+impl Question for RowsGoOn {
+    fn holds(&self, alloc: Global, suite: &Loaded) -> Result<bool, Fail> {
+        Ok(rows_go_on(alloc, &suite.checked)?)
+    }
 }
 
 #[test]
 fn rows_of_statics_and_of_new_arrays_go_on(rt: HostRuntime) -> Result<(), Fail> {
-    let alloc = rt.alloc();
-    let counter = loaded(alloc, &COUNTER_FILES)?;
-    assert!(rt; rows_go_on(alloc, &counter.checked)?);
+    assert!(rt; is_so(rt.alloc(), &COUNTER_FILES, &RowsGoOn)?);
     Ok(())
 }

@@ -1,10 +1,11 @@
 //! The frames of a stack map.
 
-use crate::suites::{R_FILES, loaded};
+use crate::suites::{Question, R_FILES, is_so};
 use et_base::is_ascii_text;
 use jvm_model::Program;
 use std::alloc::Global;
 use std::test::Fail;
+use suite_load::Loaded;
 use type_frames::{Frame, FrameFault, VType, read_frames};
 
 fn is_overflow(stack: &[VType]) -> bool {
@@ -36,10 +37,18 @@ fn are_read(alloc: Global, program: &Program) -> Result<bool, FrameFault> {
     Ok(are_of_deep(frames.as_slice()) && none.is_empty())
 }
 
+// The frames of the last method are read.
+#[derive(Drop)]
+struct FramesAreRead;
+
+impl Question for FramesAreRead {
+    fn holds(&self, alloc: Global, suite: &Loaded) -> Result<bool, Fail> {
+        Ok(are_read(alloc, suite.checked.program())?)
+    }
+}
+
 #[test]
 fn the_frame_of_a_handler_is_read(rt: HostRuntime) -> Result<(), Fail> {
-    let alloc = rt.alloc();
-    let recursion = loaded(alloc, &R_FILES)?;
-    assert!(rt; are_read(alloc, recursion.checked.program())?);
+    assert!(rt; is_so(rt.alloc(), &R_FILES, &FramesAreRead)?);
     Ok(())
 }

@@ -4,28 +4,32 @@ ghost use Rattle.std.specs.Prelude.{◌≡◌, length};
 ghost use Rattle.jvm_model.specs.{State.started, Suite.opening};
 ghost use Rattle.vm_interp.specs.Abs.{abs};
 
-use crate::parts::{Parts, parts_of};
-use crate::suites::{COUNTER_FILES, loaded};
+use crate::suites::{COUNTER_FILES, Question, is_so};
 use check_sound::reach_law;
 use et_base::NoMemory;
 use std::alloc::Global;
 use std::test::Fail;
+use suite_load::Loaded;
 use type_frames::{Checked, started_law};
+use vm_calls::Selections;
 use vm_frames::FrameStack;
 use vm_interp::{State, StepOutcome, stack_limits, step};
+use vm_mem::PlainMemory;
+use vm_tables::Tables;
 
 // What the first step of the second test, begun in the opening world, leaves of these units where
 // the test goes on.
 fn stepped(
     alloc: Global,
     checked: &Checked,
-    parts: &mut Parts,
+    tables: &Tables,
+    selections: &mut Selections,
+    memory: &mut PlainMemory,
     state: &mut State,
     units: u64,
 ) -> Result<Option<u64>, NoMemory>
-    requires parts { (parts.old.tables ≡ checked.now) × (parts.old.selections ≡ checked.now)
-        × (parts.old.memory.program ≡ checked.now)
-        × (parts.old.memory.world ≡ opening checked.now) }
+    requires parts { (tables.now ≡ checked.now) × (selections.old ≡ checked.now)
+        × (memory.old.program ≡ checked.now) × (memory.old.world ≡ opening checked.now) }
     requires state { abs state.old ≡ started checked.now 2 }
     requires tests { length checked.now.tests ≡ 2 }
 {
@@ -33,11 +37,6 @@ fn stepped(
     started_law();
     stack_limits(checked.program());
     let mut left = units;
-    let Parts {
-        tables,
-        selections,
-        memory,
-    } = parts;
     Ok(
         match step(alloc, state, memory, tables, selections, &mut left)? {
             StepOutcome::Running => Some(left),
@@ -46,22 +45,64 @@ fn stepped(
     )
 }
 
+// The same of a program and its tables.
+fn opening_step(
+    alloc: Global,
+    checked: &Checked,
+    tables: &Tables,
+    selections: &mut Selections,
+    units: u64,
+) -> Result<Option<u64>, NoMemory>
+    requires parts { (tables.now ≡ checked.now) × (selections.old ≡ checked.now) }
+    requires tests { length checked.now.tests ≡ 2 }
+{
+    let program = checked.program();
+    let mut memory = PlainMemory::opening(alloc, program)?;
+    let mut state = State::start(alloc, program, 2, FrameStack::new(alloc))?;
+    stepped(
+        alloc,
+        checked,
+        tables,
+        selections,
+        &mut memory,
+        &mut state,
+        units,
+    )
+}
+
 // The same of a program alone.
 fn first_step(alloc: Global, checked: &Checked, units: u64) -> Result<Option<u64>, NoMemory>
     requires { length checked.now.tests ≡ 2 }
 {
-    let mut parts = parts_of(alloc, checked)?;
-    let mut state = State::start(alloc, checked.program(), 2, FrameStack::new(alloc))?;
-    stepped(alloc, checked, &mut parts, &mut state, units)
+    let program = checked.program();
+    let tables = Tables::of(alloc, program)?;
+    let mut selections = Selections::new(alloc, program)?;
+    opening_step(alloc, checked, &tables, &mut selections, units)
 }
 
-// The test's method is entered, for one unit and one for its operand.
+// Whether the second of two tests enters its method, for one unit and one for its operand, and not
+// within one unit.
+fn is_entered(alloc: Global, checked: &Checked) -> Result<bool, NoMemory> {
+    if checked.program().tests.len() != 2 {
+        return Ok(false);
+    }
+    let left = first_step(alloc, checked, 10)?;
+    let short = first_step(alloc, checked, 1)?;
+    Ok(left == Some(8) && short.is_none())
+}
+
+// The method of the second test is entered.
+#[derive(Drop)]
+struct MethodIsEntered;
+
+impl Question for MethodIsEntered {
+    fn holds(&self, alloc: Global, suite: &Loaded) -> Result<bool, Fail> {
+        Ok(is_entered(alloc, &suite.checked)?)
+    }
+}
+
 #[test]
 fn a_first_step_enters_the_method(rt: HostRuntime) -> Result<(), Fail> {
-    let alloc = rt.alloc();
-    let counter = loaded(alloc, &COUNTER_FILES)?;
-    assert_eq!(rt; counter.checked.program().tests.len(), 2);
-    assert_eq!(rt; first_step(alloc, &counter.checked, 10)?, Some(8));
-    assert_eq!(rt; first_step(alloc, &counter.checked, 1)?, None);
+    assert!(rt; is_so(rt.alloc(), &COUNTER_FILES, &MethodIsEntered)?);
     Ok(())
 }

@@ -3,6 +3,7 @@
 use et_base::{NoMemory, Text};
 use outside::MemoryDepot;
 use std::alloc::Global;
+use std::test::Fail;
 use suite_load::{LoadFault, Loaded, load};
 
 /// A file's name and its bytes.
@@ -150,9 +151,22 @@ fn depot(alloc: Global, files: &[File]) -> Result<MemoryDepot, NoMemory> {
     MemoryDepot::new(alloc, held, Vec::new(alloc))
 }
 
-/// The suite `s` of these files.
-pub fn loaded(alloc: Global, files: &[File]) -> Result<Loaded, LoadFault> {
+// The suite `s` of these files.
+fn loaded(alloc: Global, files: &[File]) -> Result<Loaded, LoadFault> {
     let mut depot = depot(alloc, files)?;
     let name = Text::from_slice(alloc, b"s")?;
     load(alloc, &mut depot, &name)
+}
+
+/// What is asked of a suite.
+pub trait Question {
+    /// Whether the suite is as it should be.
+    fn holds(&self, alloc: Global, suite: &Loaded) -> Result<bool, Fail>;
+}
+
+/// Whether a question holds of the suite `s` of these files. It alone owns a suite, which takes the
+/// prover long.
+pub fn is_so<Q: Question>(alloc: Global, files: &[File], question: &Q) -> Result<bool, Fail> {
+    let suite = loaded(alloc, files)?;
+    question.holds(alloc, &suite)
 }

@@ -8,9 +8,9 @@ use Rattle.machine_tests.proofs.steps.stepped.Goals as goal
 pub step-requires : goal.step-requires
 step-requires c =
     let p = c.args.checked.now in
-    let w = c.args.parts.now.memory.world in
+    let w = c.args.memory.now.world in
     let at = c.requires.parts in
-    let same : p ≡ c.args.parts.now.tables = sym at.0 in
+    let same : p ≡ c.args.tables.now = sym at.0 in
     let tests = c.requires.tests in
     let opened : TypedWorld p w = subst (λ (z : World). TypedWorld p z) (sym at.3) (c.reach_law.ensures.opened p c.program.ensures.typed) in
     let typed : TypedState p w (abs c.args.state.now) = subst (λ (s : State). TypedState p w s) (sym c.requires.state) (c.started_law.ensures p w 2 opened (omega arith) (omega arith)) in

@@ -1,4 +1,4 @@
-use Rattle.machine_tests.proofs.memories.lines_on.Given as goal
+use Rattle.machine_tests.proofs.memories.reports.Given as goal
 
 abbrev pub ghosts-run_all : goal.ghosts-run_all
 ghosts-run_all g a = record { name = a.blank.name; parts = a.blank.parts }
