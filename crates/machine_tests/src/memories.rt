@@ -151,9 +151,11 @@ impl Question for Lines {
 
 // Whether the tests of each suite have its lines over each memory.
 fn are_of_each(alloc: Global) -> Result<bool, Fail> {
-    Ok(is_so(alloc, &COUNTER_FILES, &Lines(COUNTER_LINES))?
-        && is_so(alloc, &R_FILES, &Lines(R_LINES))?
-        && is_so(alloc, &M_FILES, &Lines(M_LINES))?)
+    Ok(
+        is_so(alloc, &COUNTER_FILES, &Lines(COUNTER_LINES))?
+            && is_so(alloc, &R_FILES, &Lines(R_LINES))?
+            && is_so(alloc, &M_FILES, &Lines(M_LINES))?,
+    )
 }
 
 #[test]
@@ -199,9 +201,7 @@ impl Trial<TraceMemory> for NotesCounter {
 
 impl Question for NotesCounter {
     fn holds(&self, alloc: Global, suite: &Loaded) -> Result<bool, Fail> {
-        Ok(passes_over::<TraceMemory, NotesCounter>(
-            alloc, suite, self,
-        )?)
+        Ok(passes_over::<TraceMemory, NotesCounter>(alloc, suite, self)?)
     }
 }
 

@@ -54,9 +54,7 @@ impl Trial<RegionMemory> for LinesAgain {
 
 impl Question for LinesAgain {
     fn holds(&self, alloc: Global, suite: &Loaded) -> Result<bool, Fail> {
-        Ok(passes_over::<RegionMemory, LinesAgain>(
-            alloc, suite, self,
-        )?)
+        Ok(passes_over::<RegionMemory, LinesAgain>(alloc, suite, self)?)
     }
 }
 
