@@ -93,12 +93,18 @@ fn go_on(alloc: Global, tables: &Tables, memory: &mut PlainMemory) -> Result<boo
     Ok(read && made)
 }
 
+// The same of a program and its tables.
+fn go_on_at_first(alloc: Global, checked: &Checked, tables: &Tables) -> Result<bool, PushFault>
+    requires { tables.now ≡ checked.now }
+{
+    let mut memory = PlainMemory::opening(alloc, checked.program())?;
+    go_on(alloc, tables, &mut memory)
+}
+
 // The same of a program alone.
 fn rows_go_on(alloc: Global, checked: &Checked) -> Result<bool, PushFault> {
-    let program = checked.program();
-    let tables = Tables::of(alloc, program)?;
-    let mut memory = PlainMemory::opening(alloc, program)?;
-    go_on(alloc, &tables, &mut memory)
+    let tables = Tables::of(alloc, checked.program())?;
+    go_on_at_first(alloc, checked, &tables)
 }
 
 // Both rows go on.

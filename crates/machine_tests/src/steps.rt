@@ -45,8 +45,27 @@ fn stepped(
     )
 }
 
-// The same of a program and its tables.
-fn opening_step(
+// The same from the state in which the test starts.
+fn step_of_memory(
+    alloc: Global,
+    checked: &Checked,
+    tables: &Tables,
+    selections: &mut Selections,
+    memory: &mut PlainMemory,
+    units: u64,
+) -> Result<Option<u64>, NoMemory>
+    requires parts { (tables.now ≡ checked.now) × (selections.old ≡ checked.now)
+        × (memory.old.program ≡ checked.now) × (memory.old.world ≡ opening checked.now) }
+    requires tests { length checked.now.tests ≡ 2 }
+{
+    let mut state = State::start(alloc, checked.program(), 2, FrameStack::new(alloc))?;
+    stepped(
+        alloc, checked, tables, selections, memory, &mut state, units,
+    )
+}
+
+// The same over the memory before the first test.
+fn step_of_selections(
     alloc: Global,
     checked: &Checked,
     tables: &Tables,
@@ -56,28 +75,30 @@ fn opening_step(
     requires parts { (tables.now ≡ checked.now) × (selections.old ≡ checked.now) }
     requires tests { length checked.now.tests ≡ 2 }
 {
-    let program = checked.program();
-    let mut memory = PlainMemory::opening(alloc, program)?;
-    let mut state = State::start(alloc, program, 2, FrameStack::new(alloc))?;
-    stepped(
-        alloc,
-        checked,
-        tables,
-        selections,
-        &mut memory,
-        &mut state,
-        units,
-    )
+    let mut memory = PlainMemory::opening(alloc, checked.program())?;
+    step_of_memory(alloc, checked, tables, selections, &mut memory, units)
+}
+
+// The same of a program and its tables.
+fn step_of_tables(
+    alloc: Global,
+    checked: &Checked,
+    tables: &Tables,
+    units: u64,
+) -> Result<Option<u64>, NoMemory>
+    requires of { tables.now ≡ checked.now }
+    requires tests { length checked.now.tests ≡ 2 }
+{
+    let mut selections = Selections::new(alloc, checked.program())?;
+    step_of_selections(alloc, checked, tables, &mut selections, units)
 }
 
 // The same of a program alone.
 fn first_step(alloc: Global, checked: &Checked, units: u64) -> Result<Option<u64>, NoMemory>
     requires { length checked.now.tests ≡ 2 }
 {
-    let program = checked.program();
-    let tables = Tables::of(alloc, program)?;
-    let mut selections = Selections::new(alloc, program)?;
-    opening_step(alloc, checked, &tables, &mut selections, units)
+    let tables = Tables::of(alloc, checked.program())?;
+    step_of_tables(alloc, checked, &tables, units)
 }
 
 // Whether the second of two tests enters its method, for one unit and one for its operand, and not
