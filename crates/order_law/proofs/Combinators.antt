@@ -59,8 +59,7 @@ module _ (tw : Twins) where
       Paired (with_places n P) R (cond b w x) (cond c y z)
   choose-paired true true e f g = f
   choose-paired false false e f g = g
-  choose-paired true false e f g = absurd (cc)
-  choose-paired false true e f g = absurd (cc)
+  choose-paired _ _ e f g = absurd (cc)
 
   pub spend-paired : {A B : Type 0} {R : A → B → Type 0} {i j : ℕ} {a : Access A} {b : Access B} → i ≡ j → Paired (with_places n P) R a b → Paired (with_places n P) R (spend i a) (spend j b)
   spend-paired {R = R} {i = i} {a = a} {b = b} e r = subst (λ (z : ℕ). Paired (with_places n P) R (spend i a) (spend z b)) e (both_spend i r)
@@ -84,17 +83,11 @@ module _ (tw : Twins) where
 
   pub on_int-paired : {S : Type 0} {Q G : S → S → Type 0} {v w : Value} {k l : ℤ → Access (Answer S)} → V v w → ((i : ℤ) → Answers Q G (k i) (l i)) → Answers Q G (on_int v k) (on_int w l)
   on_int-paired (ints i) f = f i
-  on_int-paired (longs i) f = both_done no_rows
-  on_int-paired nulls f = both_done no_rows
-  on_int-paired (literals e) f = both_done no_rows
-  on_int-paired (objects x) f = both_done no_rows
+  on_int-paired _ f = both_done no_rows
 
   pub on_long-paired : {S : Type 0} {Q G : S → S → Type 0} {v w : Value} {k l : ℤ → Access (Answer S)} → V v w → ((i : ℤ) → Answers Q G (k i) (l i)) → Answers Q G (on_long v k) (on_long w l)
-  on_long-paired (ints i) f = both_done no_rows
   on_long-paired (longs i) f = f i
-  on_long-paired nulls f = both_done no_rows
-  on_long-paired (literals e) f = both_done no_rows
-  on_long-paired (objects x) f = both_done no_rows
+  on_long-paired _ f = both_done no_rows
 
   pub null_throws : n.class null_pointer_exception null_pointer_exception ≡ true
   null_throws = mt.builtin null_pointer_exception (omega arith)
@@ -111,8 +104,7 @@ module _ (tw : Twins) where
   on_reference-paired s t r (ints i) f = both_done no_rows
   on_reference-paired s t r (longs i) f = both_done no_rows
   on_reference-paired s t r nulls f = both_done (answered (fault null_throws) r)
-  on_reference-paired s t r (literals e) f = f
-  on_reference-paired s t r (objects x) f = f
+  on_reference-paired s t r _ f = f
 
   pub constant_kind-paired : (a b : ℕ) → n.literal a b ≡ true → PairedKind (Tested n.class) (constant_kind a) (constant_kind b)
   constant_kind-paired a b e = class_kinds (pick-class n p q mt _ _ (test-paired mt.one_literal a b 0 0 e mt.stream) (mt.builtin stream_class (omega arith)) (mt.builtin string_class (omega arith)))
@@ -137,9 +129,8 @@ module _ (tw : Twins) where
   pub begun_at-paired : (c d : ℕ) {s t : Entries} (x : InitState) → n.class c d ≡ true → PairedEntries n P s t → Paired (with_places n P) (PairedUsed n P) (begun_at c s x) (begun_at d t x)
   begun_at-paired c d {s} {t} Idle e r = choose-paired _ _ (full-paired n P r) (both_done (both_refused (mt.builtin stack_overflow_error (omega arith))))
       (both_write (inits e) refl (both_done (both_begun (entry-paired n P (class_entry-paired n P c d e) r))))
-  begun_at-paired c d Running e r = both_done both_ready
-  begun_at-paired c d Done e r = both_done both_ready
   begun_at-paired c d Erroneous e r = both_done (both_refused (mt.builtin no_class_error (omega arith)))
+  begun_at-paired c d _ e r = both_done both_ready
 
   pub once-paired : {s t : Entries} {k l : Access (Answer Entries)} → PairedEntries n P s t → Rows k l → {x y : Used} → PairedUsed n P x y → Rows (once s k x) (once t l y)
   once-paired r f both_ready = f

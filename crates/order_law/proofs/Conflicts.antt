@@ -48,23 +48,21 @@ between W u (suc t) L = elim (cases_lt u t) [
 
 -- the last writer before t in suite order
 last_down : (W : Tests) (t : ℕ) (L : Location) (u : ℕ) → last W (down t) L ≡ Some u → (0 < u) × (u < t) × (W u L ≡ true) × NoneBetween W u t L
-last_down W zero L u e = absurd (cc)
-last_down W (suc zero) L u e = absurd (cc)
 last_down W (suc (suc t)) L u e = elim (cases_Bool (W (suc t) L)) [
   | inl b ↦ let g : u ≡ suc t = (let h : cond (W (suc t) L) (Some (suc t)) (last W (down (suc t)) L) ≡ Some (suc t) = rw b in cc) in
       (omega arith, omega arith, subst (λ (x : ℕ). W x L ≡ true) (sym g) b, λ x lo hi. absurd (omega arith))
   | inr b ↦ let h : cond (W (suc t) L) (Some (suc t)) (last W (down (suc t)) L) ≡ last W (down (suc t)) L = rw b in
       let r = last_down W (suc t) L u (sym h ∙ e) in (r.0, omega arith, r.2, wider W u (suc t) L b r.3)
 ]
+last_down W _ L u e = absurd (cc)
 
 last_down_none : (W : Tests) (t : ℕ) (L : Location) → last W (down t) L ≡ None → (x : ℕ) → 0 < x → x < t → W x L ≡ false
-last_down_none W zero L e x o h = absurd (omega arith)
-last_down_none W (suc zero) L e x o h = absurd (omega arith)
 last_down_none W (suc (suc t)) L e x o h = elim (cases_Bool (W (suc t) L)) [
   | inl b ↦ absurd (let h : cond (W (suc t) L) (Some (suc t)) (last W (down (suc t)) L) ≡ Some (suc t) = rw b in cc)
   | inr b ↦ let g : cond (W (suc t) L) (Some (suc t)) (last W (down (suc t)) L) ≡ last W (down (suc t)) L = rw b in
       elim (cases_eq x (suc t)) [ inl q ↦ subst (λ (y : ℕ). W y L ≡ false) (sym q) b | inr ne ↦ last_down_none W (suc t) L (sym g ∙ e) x o (omega arith) ]
 ]
+last_down_none W _ L e x o h = absurd (omega arith)
 
 -- in a lawful history the last writer isn't before another writer
 latest : (W : Tests) (R : List Edge) (D : List ℕ) (L : Location) (x u : ℕ) → History R D → last W D L ≡ Some x → Member u D → W u L ≡ true → (x ≡ u) ⊎ (Before R x u → ⊥)

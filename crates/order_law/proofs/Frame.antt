@@ -21,14 +21,11 @@ exposed_later : (L M : Location) (ts : List Touch) → same M L ≡ false → ex
 exposed_later L M ts n e = rw (n, e)
 
 has_forward : (m : Matching) (w v : World) → Forward m w v → {L M : Location} → PairedLocation m L M → has w L ≡ true → has v M ≡ true
-has_forward m w v fw (statics e) h = refl
-has_forward m w v fw (inits e) h = refl
-has_forward m w v fw (files e) h = refl
-has_forward m w v fw (props e) h = refl
 has_forward m w v fw (heads {a} {b} p) h = lt-ltb b (size v) (fw a b p (ltb-true a (size w) h))
 has_forward m w v fw (texts {a} {b} p) h = lt-ltb b (size v) (fw a b p (ltb-true a (size w) h))
 has_forward m w v fw (at_field {a} {b} p q) h = lt-ltb b (size v) (fw a b p (ltb-true a (size w) h))
 has_forward m w v fw (at_elem {a} {b} i p) h = lt-ltb b (size v) (fw a b p (ltb-true a (size w) h))
+has_forward m w v fw _ h = refl
 
 forward_made : (m : Matching) → OneToOne m.place → (w v : World) (h h' : Object) → m.place (size w) (size v) → Forward m w v → Forward m (make_object w h) (make_object v h')
 forward_made m op w v h h' pl fw a b p lt =

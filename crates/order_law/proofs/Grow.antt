@@ -27,21 +27,14 @@ module _ (n : Numbers) (P Q : ℕ → ℕ → Type 0) (more : (a b : ℕ) → P 
   content-more (statics e) c d r = value-more r
   content-more (at_field p e) c d r = value-more r
   content-more (at_elem i p) c d r = value-more r
-  content-more (heads p) c d r = r
-  content-more (inits e) c d r = r
-  content-more (texts p) c d r = r
-  content-more (files k) c d r = r
-  content-more (props k) c d r = r
+  content-more _ c d r = r
 
 pub nothing_there : (n : Numbers) (P Q : ℕ → ℕ → Type 0) → n.class 0 0 ≡ true → {L M : Location} → PairedLocation (with_places n P) L M → PairedContent (with_places n Q) L M (part no_object L) (part no_object M)
 nothing_there n P Q root (statics e) = nulls
-nothing_there n P Q root (inits e) = refl
 nothing_there n P Q root (heads p) = record { kind = class_kinds root; length = refl }
 nothing_there n P Q root (at_field p e) = nulls
 nothing_there n P Q root (at_elem i p) = nulls
-nothing_there n P Q root (texts p) = refl
-nothing_there n P Q root (files k) = refl
-nothing_there n P Q root (props k) = refl
+nothing_there n P Q root _ = refl
 
 pub given_place : (m : Matching) {o r : Option ℕ} (a : ℕ) → PairedOption m.place o r → o ≡ Some a → (c : ℕ) × m.place a c × (r ≡ Some c)
 given_place m a both_none e = absurd (cc)

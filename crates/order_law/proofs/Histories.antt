@@ -68,12 +68,11 @@ module _ (p : Program) (linked : Linked p) where
   left (Some u) L = at (before_test (suc u)) L
 
   left_before : (t : ℕ) (L : Location) → at (before_test t) L ≡ left (last (writes_of p) (down t) L) L
-  left_before zero L = refl
-  left_before (suc zero) L = refl
   left_before (suc (suc t)) L = elim (cases_Bool (writes_of p (suc t) L)) [
     | inl b ↦ ap (λ (o : Option ℕ). left o L) (sym (last_at_true (writes_of p) (suc t) (down (suc t)) L b))
     | inr b ↦ unwritten (tree p (suc t) (test_at p (suc t)).budget) (before_test (suc t)) L b ∙ left_before (suc t) L ∙ ap (λ (o : Option ℕ). left o L) (sym (last_at_false (writes_of p) (suc t) (down (suc t)) L b))
   ]
+  left_before _ L = refl
 
   pub record Holds (D : List ℕ) : Type 0 where
     pub below : (a b : ℕ) → Pairs D a b → b < size (after_history p D)
@@ -100,12 +99,11 @@ module _ (p : Program) (linked : Linked p) where
   held_first : (L M : Location) → PairedLocation (alone_with (Pairs [])) L M → PairedContent (alone_with (Pairs [])) L M (left None L) (at (opening p) M)
   held_first L M (statics {f} {g} e) = subst (λ (z : ℕ). PairedValue (alone_with (Pairs [])) (at (opening p) (place.Static f)) (at (opening p) (place.Static z))) (eqb-true f g e) (alone (at (opening p) (place.Static f)) (opening_static f))
   held_first L M (inits {c} {d} e) = ap (λ (z : ℕ). at (opening p) (place.Init z)) (eqb-true c d e)
-  held_first L M (files n) = refl
-  held_first L M (props n) = refl
   held_first L M (heads h) = absurd h
   held_first L M (texts h) = absurd h
   held_first L M (at_field h e) = absurd h
   held_first L M (at_elem i h) = absurd h
+  held_first L M _ = refl
 
   pub holds_first : Holds []
   holds_first = record {
@@ -139,12 +137,12 @@ module _ (p : Program) (linked : Linked p) where
       sums : first + size (after_history p D) ≡ second + size (before_test (suc k))
 
     old_or_new : {L M : Location} → PairedLocation (alone_with (Pairs (suc k ∷ D))) L M → PairedLocation (alone_with (Pairs D)) L M ⊎ NewLocation L M
+    old_or_new (heads {a} {b} x) = elim x [ inl u ↦ inr (record { first = a; second = b; of_left = refl; of_right = refl; made_now = u.0; sums = u.1 }) | inr v ↦ inl (heads v) ]
+    old_or_new (texts {a} {b} x) = elim x [ inl u ↦ inr (record { first = a; second = b; of_left = refl; of_right = refl; made_now = u.0; sums = u.1 }) | inr v ↦ inl (texts v) ]
     old_or_new (statics e) = inl (statics e)
     old_or_new (inits e) = inl (inits e)
     old_or_new (files e) = inl (files e)
     old_or_new (props e) = inl (props e)
-    old_or_new (heads {a} {b} x) = elim x [ inl u ↦ inr (record { first = a; second = b; of_left = refl; of_right = refl; made_now = u.0; sums = u.1 }) | inr v ↦ inl (heads v) ]
-    old_or_new (texts {a} {b} x) = elim x [ inl u ↦ inr (record { first = a; second = b; of_left = refl; of_right = refl; made_now = u.0; sums = u.1 }) | inr v ↦ inl (texts v) ]
     old_or_new (at_field {a} {b} x e) = elim x [ inl u ↦ inr (record { first = a; second = b; of_left = refl; of_right = refl; made_now = u.0; sums = u.1 }) | inr v ↦ inl (at_field v e) ]
     old_or_new (at_elem {a} {b} i x) = elim x [ inl u ↦ inr (record { first = a; second = b; of_left = refl; of_right = refl; made_now = u.0; sums = u.1 }) | inr v ↦ inl (at_elem i v) ]
 

@@ -51,10 +51,7 @@ part_unwritten o x (place.Field a f) i e = let g : a ≡ o = cc in
 part_unwritten o x (place.Elem a k) i e = let g : a ≡ o = cc in let z : k ≡ 0 + k = omega arith in
     elems_unwritten o 0 k x.elems (subst (λ (y : ℕ). written (elems_made o 0 x.elems) (place.Elem o y) ≡ false) z
     (subst (λ (z : ℕ). written (elems_made o 0 x.elems) (place.Elem z k) ≡ false) g (cells_unwritten o x (place.Elem a k) e).1))
-part_unwritten o x (place.Static f) i e = refl
-part_unwritten o x (place.Init f) i e = refl
-part_unwritten o x (place.File f) i e = refl
-part_unwritten o x (place.Prop f) i e = refl
+part_unwritten o x _ i e = refl
 
 made_leaves : (w : World) (x : Object) (L : Location) → written (made (size w) x) L ≡ false → at (make_object w x) L ≡ at w L
 made_leaves w x L e = elim (is_of_cases L (size w)) [

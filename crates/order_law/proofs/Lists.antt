@@ -24,8 +24,7 @@ module _ {A B : Type 0} (R : A → B → Type 0) where
   pub cond-list : (b c : Bool) {xs us : List A} {ys vs : List B} → b ≡ c → PairedList R xs ys → PairedList R us vs → PairedList R (cond b xs us) (cond c ys vs)
   cond-list true true e p q = p
   cond-list false false e p q = q
-  cond-list true false e p q = absurd (cc)
-  cond-list false true e p q = absurd (cc)
+  cond-list _ _ e p q = absurd (cc)
 
   pub length-paired : {xs : List A} {ys : List B} → PairedList R xs ys → length xs ≡ length ys
   length-paired no_more = refl

@@ -89,8 +89,7 @@ module _ (tw : Twins) where
   keeps_object-paired w rs r (ints i) = stuck_row-paired tw
   keeps_object-paired w rs r (longs i) = stuck_row-paired tw
   keeps_object-paired w rs r nulls = makes_message-paired (codes "null") w rs r
-  keeps_object-paired w rs r (literals e) = with_kind-paired tw (literals e) (λ x y h. keeps_string-paired _ _ w rs r (literals e) (class_of-paired tw.numbers tw.left tw.right tw.matched h))
-  keeps_object-paired w rs r (objects e) = with_kind-paired tw (objects e) (λ x y h. keeps_string-paired _ _ w rs r (objects e) (class_of-paired tw.numbers tw.left tw.right tw.matched h))
+  keeps_object-paired w rs r v = with_kind-paired tw v (λ x y h. keeps_string-paired _ _ w rs r v (class_of-paired tw.numbers tw.left tw.right tw.matched h))
 
   pub throwable-native : (x : Native) {s t : Working} → W s t → Natives (native_throwable tw.left x s) (native_throwable tw.right x t)
   unfolding native_throwable
@@ -122,8 +121,7 @@ module _ (tw : Twins) where
   equals-paired w rs r (ints i) = stuck_row-paired tw
   equals-paired w rs r (longs i) = stuck_row-paired tw
   equals-paired w rs r nulls = answers-paired w (one_more (truth-paired tw {b = false} refl) rs)
-  equals-paired w rs r (literals e) = with_kind-paired tw (literals e) (λ x y h. compares-paired _ _ w rs r (literals e) (class_of-paired tw.numbers tw.left tw.right tw.matched h))
-  equals-paired w rs r (objects e) = with_kind-paired tw (objects e) (λ x y h. compares-paired _ _ w rs r (objects e) (class_of-paired tw.numbers tw.left tw.right tw.matched h))
+  equals-paired w rs r v = with_kind-paired tw v (λ x y h. compares-paired _ _ w rs r v (class_of-paired tw.numbers tw.left tw.right tw.matched h))
 
   pub joined-paired : {s t : Working} {vs ws : List Value} {v u : Value} (x y : List ℕ) → W s t → Vs vs ws → V tw v u → Natives (joined tw.left s vs v x y) (joined tw.right t ws u x y)
   joined-paired x [] w rs r = answers-paired w (one_more r rs)
@@ -155,8 +153,7 @@ module _ (tw : Twins) where
   appends_string-paired w rs r (ints i) = stuck_row-paired tw
   appends_string-paired w rs r (longs i) = stuck_row-paired tw
   appends_string-paired w rs r nulls = appends-paired (codes "null") w rs r
-  appends_string-paired w rs r (literals e) = on_text-paired tw _ _ w (literals e) (λ x. appends-paired x w rs r)
-  appends_string-paired w rs r (objects e) = on_text-paired tw _ _ w (objects e) (λ x. appends-paired x w rs r)
+  appends_string-paired w rs r v = on_text-paired tw _ _ w v (λ x. appends-paired x w rs r)
 
   pub builder-native : (x : Native) {s t : Working} → W s t → Natives (native_builder tw.left x s) (native_builder tw.right x t)
   unfolding native_builder
@@ -201,8 +198,7 @@ module _ (tw : Twins) where
   prints_string-paired end w rs (ints i) = stuck_row-paired tw
   prints_string-paired end w rs (longs i) = stuck_row-paired tw
   prints_string-paired end w rs nulls = prints-paired (codes "null" ++ end) w rs
-  prints_string-paired end w rs (literals e) = on_text-paired tw _ _ w (literals e) (λ x. prints-paired (utf8_of x ++ end) w rs)
-  prints_string-paired end w rs (objects e) = on_text-paired tw _ _ w (objects e) (λ x. prints-paired (utf8_of x ++ end) w rs)
+  prints_string-paired end w rs v = on_text-paired tw _ _ w v (λ x. prints-paired (utf8_of x ++ end) w rs)
 
   pub on_printed-paired : {s t : Working} {k l : Value → List Value → Access (Answer Working)} → W s t → ((v u : Value) (vs ws : List Value) → V tw v u → Vs vs ws → Natives (k v vs) (l u ws)) → Natives (on_printed s k) (on_printed t l)
   on_printed-paired w f = popping-paired tw w.entries.entries.top.stack (λ a b vs ws r rs. popping-paired tw rs (λ c d us xs k ks. f a b us xs r ks))

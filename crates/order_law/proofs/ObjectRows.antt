@@ -133,8 +133,7 @@ module _ (tw : Twins) where
   checked-paired r e (ints i) f = stuck_row-paired tw
   checked-paired r e (longs i) f = stuck_row-paired tw
   checked-paired r e nulls f = f
-  checked-paired r e (literals g) f = with_kind-paired tw (literals g) (λ x y h. stores-paired r e f h)
-  checked-paired r e (objects g) f = with_kind-paired tw (objects g) (λ x y h. stores-paired r e f h)
+  checked-paired r e v f = with_kind-paired tw v (λ x y h. stores-paired r e f h)
 
   pub narrow_at : {a b : ℕ} {v w : Value} → a ≡ b → V tw v w → V tw (narrow a v) (narrow b w)
   narrow_at {a} {b} {v} {w} e r = narrowed-paired tw (ap (λ (z : ℕ). z ∷ []) e) r
@@ -167,8 +166,7 @@ module _ (tw : Twins) where
   cast-paired e f (ints i) rs = stuck_row-paired tw
   cast-paired e f (longs i) rs = stuck_row-paired tw
   cast-paired e f nulls rs = goes_on-paired tw f (one_more nulls rs)
-  cast-paired e f (literals g) rs = with_kind-paired tw (literals g) (λ x y h. cast_to-paired e f (literals g) rs h)
-  cast-paired e f (objects g) rs = with_kind-paired tw (objects g) (λ x y h. cast_to-paired e f (objects g) rs h)
+  cast-paired e f v rs = with_kind-paired tw v (λ x y h. cast_to-paired e f v rs h)
 
   pub truth-paired : {b c : Bool} → b ≡ c → V tw (Int (cond b (pos 1) (pos 0))) (Int (cond c (pos 1) (pos 0)))
   truth-paired {b} {c} e = subst (λ (z : Bool). V tw (Int (cond b (pos 1) (pos 0))) (Int (cond z (pos 1) (pos 0)))) e (ints (cond b (pos 1) (pos 0)))
@@ -180,8 +178,7 @@ module _ (tw : Twins) where
   tested-paired e f (ints i) rs = stuck_row-paired tw
   tested-paired e f (longs i) rs = stuck_row-paired tw
   tested-paired e f nulls rs = goes_on-paired tw f (one_more (ints (pos 0)) rs)
-  tested-paired e f (literals g) rs = with_kind-paired tw (literals g) (λ x y h. tested_for-paired e f rs h)
-  tested-paired e f (objects g) rs = with_kind-paired tw (objects g) (λ x y h. tested_for-paired e f rs h)
+  tested-paired e f v rs = with_kind-paired tw v (λ x y h. tested_for-paired e f rs h)
 
   pub casts-paired : {i j : Instr} {s t : Entries} → PairedInstr tw.numbers i j → Frames tw s t → Rows tw (row_casts tw.left i s) (row_casts tw.right j t)
   unfolding row_casts

@@ -89,8 +89,7 @@ least_is f (suc n) = least_next f n (least_is f n) (f n) refl
 -- the raw writers of a test
 abbrev is_raw : EdgeKind → Bool
 is_raw Raw = true
-is_raw Waw = false
-is_raw War = false
+is_raw _ = false
 
 abbrev pub writers : List Edge → ℕ → List ℕ
 writers [] t = []
@@ -98,8 +97,7 @@ writers (e ∷ R) t = cond (is_raw e.kind && nat_eq e.later t) (e.earlier ∷ wr
 
 raw_is : (k : EdgeKind) → is_raw k ≡ true → k ≡ Raw
 raw_is Raw e = refl
-raw_is Waw e = absurd (cc)
-raw_is War e = absurd (cc)
+raw_is _ e = absurd (cc)
 
 pub writers_in : (R : List Edge) (u t : ℕ) → HasEdge R Raw u t → Member u (writers R t)
 writers_in [] u t h = absurd h
@@ -178,9 +176,9 @@ member_place [] x h = absurd h
 member_place (y ∷ l) x h = elim h [ inl e ↦ (0, omega arith, ap (λ (z : ℕ). Some z) (sym e)) | inr j ↦ let q = member_place l x j in let lt = q.1 in (suc q.0, omega arith, q.2) ]
 
 in_take : (l : List ℕ) (i x : ℕ) → Member x (take i l) → (j : ℕ) × (j < i) × (slice_get l j ≡ Some x)
+in_take (y ∷ l) (suc i) x h = elim h [ inl e ↦ (0, omega arith, ap (λ (z : ℕ). Some z) (sym e)) | inr k ↦ let q = in_take l i x k in let lt = q.1 in (suc q.0, omega arith, q.2) ]
 in_take l zero x h = absurd h
 in_take [] (suc i) x h = absurd h
-in_take (y ∷ l) (suc i) x h = elim h [ inl e ↦ (0, omega arith, ap (λ (z : ℕ). Some z) (sym e)) | inr k ↦ let q = in_take l i x k in let lt = q.1 in (suc q.0, omega arith, q.2) ]
 
 take_in : (l : List ℕ) (i j x : ℕ) → j < i → slice_get l j ≡ Some x → Member x (take i l)
 take_in l zero j x h e = absurd (omega arith)
@@ -203,10 +201,10 @@ distinct_places (y ∷ l) d (suc i) zero x h a b = d.0 (member_get l i y (a ∙ 
 distinct_places (y ∷ l) d (suc i) (suc j) x h a b = distinct_places l d.1 i j x (omega arith) a b
 
 take_get : (l : List ℕ) (n i x : ℕ) → slice_get (take n l) i ≡ Some x → (i < n) × (slice_get l i ≡ Some x)
-take_get l zero i x e = absurd (cc)
-take_get [] (suc n) i x e = absurd (cc)
 take_get (y ∷ l) (suc n) zero x e = (omega arith, e)
 take_get (y ∷ l) (suc n) (suc i) x e = let q = take_get l n i x e in let lt = q.0 in (omega arith, q.1)
+take_get l zero i x e = absurd (cc)
+take_get [] (suc n) i x e = absurd (cc)
 
 order_places : (R : List Edge) (l : List ℕ) → InOrder R l → (i : ℕ) → IsInPlace R l i
 order_places R [] o i j a b h e g r = absurd (cc)

@@ -16,9 +16,8 @@ use Rattle.order_law.proofs.{Members.member_either, Members.member_flat_map, Own
 
 -- units
 few_units : (xs : List Given) (i : ℕ) → units_in (outcome_in (slice_get xs i)) ≤ units_of xs
-few_units [] i = omega arith
-few_units (x ∷ xs) zero = omega arith
 few_units (x ∷ xs) (suc i) = let h = few_units xs i in omega arith
+few_units _ _ = omega arith
 
 all_mapped : {A : Type 0} (f : A → ℕ) (g : ℕ → Bool) (xs : List A) → ((x : A) → g (f x) ≡ true) → list_all g (map f xs) ≡ true
 all_mapped f g [] h = refl

@@ -127,8 +127,7 @@ module _ (p : Program) (T : Touches) (by : ℕ → ℕ × ℕ) where
 
   rises : (k : EdgeKind) (u t : ℕ) (L : Location) → Conflict (writes_in T) (exposed_in T) k u t L → u < t
   rises Raw u t L c = c.0
-  rises Waw u t L c = c.0
-  rises War u t L c = c.0
+  rises _ u t L c = c.0
 
   abbrev of_kind : EdgeKind → ℕ → ℕ → List Edge
   of_kind k u t = edge_of p by k u t (conflict_places_in T k u t)

@@ -17,8 +17,7 @@ list-append (one_more r rs) q = one_more r (list-append rs q)
 pub same_cond : {A : Type 0} (b c : Bool) {x y u v : A} → b ≡ c → x ≡ y → u ≡ v → cond b x u ≡ cond c y v
 same_cond true true e p q = p
 same_cond false false e p q = q
-same_cond true false e p q = absurd (cc)
-same_cond false true e p q = absurd (cc)
+same_cond _ _ e p q = absurd (cc)
 
 module _ (m : Matching) (op : OneToOne m.place) (of : OneToOne m.fields) (oc : OneToOne m.class) where
   pub partner : {L M M' : Location} → PairedLocation m L M → PairedLocation m L M' → M ≡ M'
@@ -66,14 +65,11 @@ module _ (m : Matching) (op : OneToOne m.place) (of : OneToOne m.fields) (oc : O
   ]
 
   pub place-paired : {L M : Location} → PairedLocation m L M → PairedOption m.place (place_of L) (place_of M)
-  place-paired (statics p) = both_none
-  place-paired (inits p) = both_none
   place-paired (heads p) = both_some p
   place-paired (at_field p q) = both_some p
   place-paired (at_elem i p) = both_some p
   place-paired (texts p) = both_some p
-  place-paired (files n) = both_none
-  place-paired (props n) = both_none
+  place-paired _ = both_none
 
   of_partner : {o o' : Option ℕ} {a b : ℕ} → PairedOption m.place o o' → m.place a b → o ≡ Some a → o' ≡ Some b
   of_partner both_none p e = absurd (cc)
@@ -97,13 +93,11 @@ module _ (m : Matching) (op : OneToOne m.place) (of : OneToOne m.fields) (oc : O
 
   pub part-paired : {x y : Object} {L M : Location} → PairedObject m x y → PairedLocation m L M → PairedContent m L M (part x L) (part y M)
   part-paired o (statics p) = nulls
-  part-paired o (inits p) = refl
   part-paired o (heads p) = o.head
   part-paired o (at_field p q) = look-paired o.fields q
   part-paired o (at_elem i p) = get-paired i o.elems
   part-paired o (texts p) = ap text_or_empty o.text
-  part-paired o (files n) = refl
-  part-paired o (props n) = refl
+  part-paired o _ = refl
 
   -- two worlds after an object was made on both sides
   pub after_make : (w v : World) (x y : Object) (M M' : Location) → PairedObject m x y → m.place (size w) (size v) → PairedLocation m M M' →
@@ -125,11 +119,7 @@ module _ (m : Matching) (op : OneToOne m.place) (of : OneToOne m.fields) (oc : O
   given-paired (statics p) c d r = value-given r
   given-paired (at_field p q) c d r = value-given r
   given-paired (at_elem i p) c d r = value-given r
-  given-paired (inits p) c d r = both_none
-  given-paired (heads p) c d r = both_none
-  given-paired (texts p) c d r = both_none
-  given-paired (files n) c d r = both_none
-  given-paired (props n) c d r = both_none
+  given-paired _ c d r = both_none
 
   pub writes-paired : {L M : Location} → PairedLocation m L M → PairedTouch m (write_of L) (write_of M)
   writes-paired p = record { write = refl; location = p; gave = both_none }
@@ -145,8 +135,7 @@ module _ (m : Matching) (op : OneToOne m.place) (of : OneToOne m.fields) (oc : O
   text_touched : {a b : ℕ} (t u : Option (List ℕ)) → m.place a b → t ≡ u → PairedList (PairedTouch m) (text_made a t) (text_made b u)
   text_touched None None p e = no_more
   text_touched (Some t) (Some u) p e = one_more (writes-paired (texts p)) no_more
-  text_touched None (Some u) p e = absurd (cc)
-  text_touched (Some t) None p e = absurd (cc)
+  text_touched _ _ p e = absurd (cc)
 
   pub made_paired : {a b : ℕ} {x y : Object} {ts us : List Touch} → m.place a b → PairedObject m x y → PairedList (PairedTouch m) ts us → PairedList (PairedTouch m) (made a x ++ ts) (made b y ++ us)
   made_paired {x = x} {y = y} p o r = list-append (one_more (writes-paired (heads p)) (list-append (fields_touched p o.fields) (list-append (elems_touched 0 p o.elems) (text_touched x.text y.text p o.text)))) r

@@ -26,9 +26,8 @@ both_print : (bs cs : List ℕ) → Prints bs → Prints cs → Prints (bs ++ cs
 both_print bs cs h k = list_all-append printable bs cs ∙ and_from (list_all printable bs) (list_all printable cs) h k
 
 take_prints : (n : ℕ) (bs : List ℕ) → Prints bs → Prints (take n bs)
-take_prints zero bs h = refl
-take_prints (suc n) [] h = refl
 take_prints (suc n) (b ∷ bs) h = let k = and_parts (printable b) (list_all printable bs) h in more_prints b (take n bs) k.0 (take_prints n bs k.1)
+take_prints _ _ h = refl
 
 -- ---- numbers
 

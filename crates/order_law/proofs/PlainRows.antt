@@ -41,10 +41,7 @@ module _ (tw : Twins) where
 
   pub long-paired : {v w : Value} → V tw v w → is_long v ≡ is_long w
   long-paired (ints i) = refl
-  long-paired (longs i) = refl
-  long-paired nulls = refl
-  long-paired (literals e) = refl
-  long-paired (objects x) = refl
+  long-paired _ = refl
 
   pub under_long-paired : {s t : Entries} {a a' b b' : Value} {vs ws : List Value} → Frames tw s t → V tw a a' → V tw b b' → PairedList (V tw) vs ws →
       Rows tw (two_under_long tw.left s a b vs) (two_under_long tw.right t a' b' ws)
@@ -98,9 +95,7 @@ module _ (tw : Twins) where
   pub converted-paired : (x : Conv) {s t : Entries} → Frames tw s t → Rows tw (converted tw.left x s) (converted tw.right x t)
   converted-paired conv.I2l f = popping-paired tw f.entries.top.stack (λ a b vs ws r rs. on_int-paired tw r (λ i. goes_on-paired tw f (one_more (longs _) rs)))
   converted-paired conv.L2i f = popping-paired tw f.entries.top.stack (λ a b vs ws r rs. on_long-paired tw r (λ i. goes_on-paired tw f (one_more (ints _) rs)))
-  converted-paired conv.I2b f = popping-paired tw f.entries.top.stack (λ a b vs ws r rs. on_int-paired tw r (λ i. goes_on-paired tw f (one_more (ints _) rs)))
-  converted-paired conv.I2c f = popping-paired tw f.entries.top.stack (λ a b vs ws r rs. on_int-paired tw r (λ i. goes_on-paired tw f (one_more (ints _) rs)))
-  converted-paired conv.I2s f = popping-paired tw f.entries.top.stack (λ a b vs ws r rs. on_int-paired tw r (λ i. goes_on-paired tw f (one_more (ints _) rs)))
+  converted-paired _ f = popping-paired tw f.entries.top.stack (λ a b vs ws r rs. on_int-paired tw r (λ i. goes_on-paired tw f (one_more (ints _) rs)))
 
   pub increased-paired : (i : ℕ) (by : ℤ) {s t : Entries} {x y : Option Value} → Frames tw s t → PairedOption (V tw) x y → Rows tw (increased tw.left i by s x) (increased tw.right i by t y)
   increased-paired i by f both_none = stuck_row-paired tw
@@ -126,10 +121,7 @@ module _ (tw : Twins) where
 
   pub null-paired : {v w : Value} → V tw v w → is_null v ≡ is_null w
   null-paired (ints i) = refl
-  null-paired (longs i) = refl
-  null-paired nulls = refl
-  null-paired (literals e) = refl
-  null-paired (objects x) = refl
+  null-paired _ = refl
 
   pub goes_if-paired : {b c : Bool} (to : ℕ) {s t : Entries} {vs ws : List Value} → b ≡ c → Frames tw s t → PairedList (V tw) vs ws → Rows tw (goes_if b to tw.left s vs) (goes_if c to tw.right t ws)
   goes_if-paired to e f rs = choose-paired tw _ _ e (goes_to-paired tw refl f rs) (goes_on-paired tw f rs)

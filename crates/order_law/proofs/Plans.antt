@@ -15,8 +15,7 @@ use Rattle.order_law.proofs.Posts.{reversed, member_mid, below_mid, posts_more, 
 module _ (p : Program) (R : List Edge) (is_record : RecordOf p R) where
   edge_rises : (k : EdgeKind) (u t : ℕ) → HasEdge R k u t → u < t
   edge_rises Raw u t i = ((is_record Raw u t).0 i).3.0
-  edge_rises Waw u t i = ((is_record Waw u t).0 i).3.0
-  edge_rises War u t i = ((is_record War u t).0 i).3.0
+  edge_rises k u t i = ((is_record k u t).0 i).3.0
 
   pub before_rises : {u t : ℕ} → Before R u t → u < t
   before_rises b = before_up R edge_rises b

@@ -22,8 +22,7 @@ pub pick-option : {A B : Type 0} {R : A → B → Type 0} (b c : Bool) {x u : Op
     PairedOption R (cond b x u) (cond c y v)
 pick-option true true e p q = p
 pick-option false false e p q = q
-pick-option true false e p q = absurd (cc)
-pick-option false true e p q = absurd (cc)
+pick-option _ _ e p q = absurd (cc)
 
 pub first-paired : {R : ℕ → ℕ → Type 0} (f g : ℕ → Bool) → ((x y : ℕ) → R x y → f x ≡ g y) → {xs ys : List ℕ} → PairedList R xs ys → PairedOption R (find f xs) (find g ys)
 first-paired f g h no_more = both_none
@@ -135,19 +134,14 @@ module _ (n : Numbers) (p q : Program) (mt : MatchedCode n p q) where
   base_fits-paired shorts shorts = refl
   base_fits-paired int_bases int_bases = refl
   base_fits-paired long_bases long_bases = refl
-  base_fits-paired _ _ = refl
 
+  base_fits-paired _ _ = refl
   object-paired : (c d : ℕ) → C c d → nat_eq c object_class ≡ nat_eq d object_class
   object-paired c d e = test-paired mt.one_class c d object_class object_class e (mt.builtin object_class (omega arith))
 
   is_object-paired : {a b : Base} → PairedBase C a b → is_object a ≡ is_object b
   is_object-paired (class_bases {c} {d} e) = object-paired c d e
-  is_object-paired booleans = refl
-  is_object-paired bytes = refl
-  is_object-paired chars = refl
-  is_object-paired shorts = refl
-  is_object-paired int_bases = refl
-  is_object-paired long_bases = refl
+  is_object-paired _ = refl
 
   pub fits-paired : {a b x y : Kind} → PairedKind C a b → PairedKind C x y → kind_fits p a x ≡ kind_fits q b y
   unfolding kind_fits
@@ -209,8 +203,7 @@ module _ (n : Numbers) (p q : Program) (mt : MatchedCode n p q) where
       PairedOption PairedFound (elim b [ true ↦ x | false ↦ u ]) (elim c [ true ↦ y | false ↦ v ])
   pick-found true true e r s = r
   pick-found false false e r s = s
-  pick-found true false e r s = absurd (cc)
-  pick-found false true e r s = absurd (cc)
+  pick-found _ _ e r s = absurd (cc)
 
   found-paired : {xs ys : List Placed} (e e' pc pc' : ℕ) → PairedList (PairedPlaced n) xs ys → e ≡ e' → pc ≡ pc' → PairedOption PairedFound (found_in xs e pc) (found_in ys e' pc')
   found-paired e e' pc pc' no_more g h = both_none
@@ -263,8 +256,7 @@ module _ (n : Numbers) (p q : Program) (mt : MatchedCode n p q) where
   pick-selected : (b c : Bool) {x y u v : Selected} → b ≡ c → PairedSelected x y → PairedSelected u v → PairedSelected (cond b x u) (cond c y v)
   pick-selected true true e r s = r
   pick-selected false false e r s = s
-  pick-selected true false e r s = absurd (cc)
-  pick-selected false true e r s = absurd (cc)
+  pick-selected _ _ e r s = absurd (cc)
 
   like-paired : (a b x y : ℕ) → M a b → M x y → is_like p a x ≡ is_like q b y
   like-paired a b x y e g = let r = mt.methods a b e in let s = mt.methods x y g in
@@ -326,8 +318,7 @@ module _ (n : Numbers) (p q : Program) (mt : MatchedCode n p q) where
   pub pick-class : (b c : Bool) {x y u v : ℕ} → b ≡ c → C x y → C u v → C (cond b x u) (cond c y v)
   pick-class true true e r s = r
   pick-class false false e r s = s
-  pick-class true false e r s = absurd (cc)
-  pick-class false true e r s = absurd (cc)
+  pick-class _ _ e r s = absurd (cc)
 
   start-paired : (c d x y : ℕ) → C c d → C x y → C (special_start p c x) (special_start q d y)
   start-paired c d x y e g = pick-class _ _ (both _ _ _ _ (ap not (test-paired mt.one_class x y c d g e)) (member-paired C mt.one_class x y g (upwards-paired c d e))) (or_above-paired x y (mt.classes c d e).superclass g) g

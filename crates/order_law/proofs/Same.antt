@@ -50,11 +50,8 @@ self_kind (kind.Array d b) = array_kinds d (self_base b)
 
 -- a value that is no object
 abbrev pub NoObject : Value → Type 0
-NoObject (Int n) = Unit {0}
-NoObject (Long n) = Unit {0}
-NoObject Null = Unit {0}
-NoObject (Lit n) = Unit {0}
 NoObject (Obj o) = ⊥
+NoObject _ = Unit {0}
 
 self_constant : (v : Value) → NoObject v → PairedConstant same_numbers v v
 self_constant (Int n) h = const_int n
@@ -64,11 +61,8 @@ self_constant (Lit n) h = const_literal (self n)
 self_constant (Obj o) h = absurd h
 
 constant_form : (b : Body) (v : Value) → IsForm b (form.Const v) → NoObject v
-constant_form b (Int n) h = tt
-constant_form b (Long n) h = tt
-constant_form b Null h = tt
-constant_form b (Lit n) h = tt
 constant_form b (Obj o) h = h
+constant_form b _ h = tt
 
 -- no number of a program stands in it
 abbrev pub is_free : Instr → Bool
@@ -174,11 +168,8 @@ is_body (Some x) h b e = let g : x ≡ b = cc in subst (λ (z : Body). IsBody z)
 
 module _ (p : Program) (linked : Linked p) where
   no_object : (d : List ℕ) (v : Value) → opens p d v ≡ true → NoObject v
-  no_object d (Int n) e = tt
-  no_object d (Long n) e = tt
-  no_object d Null e = tt
-  no_object d (Lit n) e = tt
   no_object d (Obj o) e = cc
+  no_object d _ e = tt
 
   pub opens_no_object : (f : ℕ) → NoObject (field_at p f).opening
   opens_no_object f = elim (cases_lt f (length p.fields)) [

@@ -71,8 +71,7 @@ module _ (n : Numbers) (P : ℕ → ℕ → Type 0) where
   all_at : (k : EntryKind) {e f : Entry} {bs cs : List Entry} → PairedEntry e f → PairedList PairedEntry bs cs →
       PairedList PairedEntry (elim k [ Absent ↦ bs | InMethod ↦ e ∷ bs | InClass b ↦ e ∷ bs ]) (elim k [ Absent ↦ cs | InMethod ↦ f ∷ cs | InClass b ↦ f ∷ cs ])
   all_at Absent r rs = rs
-  all_at InMethod r rs = one_more r rs
-  all_at (InClass b) r rs = one_more r rs
+  all_at _ r rs = one_more r rs
 
   pub all-paired : {s t : Entries} → PairedEntries s t → PairedList PairedEntry (all_entries s) (all_entries t)
   all-paired {s} {t} r = subst (λ (k : EntryKind). PairedList PairedEntry (all_entries s) (elim k [ Absent ↦ t.below | InMethod ↦ t.top ∷ t.below | InClass b ↦ t.top ∷ t.below ])) r.top.kind (all_at s.top.kind r.top r.below)

@@ -78,14 +78,12 @@ module _ (tw : Twins) where
   looked-paired c d i j Idle e g r f = choose-paired tw _ _ (full-paired tw.numbers tw.place r)
       (spend-paired tw g (faults-paired tw (tw.matched.builtin stack_overflow_error (omega arith)) r))
       (spend-paired tw g (both_write (inits e) refl (both_done (answered go (entry-paired tw.numbers tw.place (class_entry-paired tw.numbers tw.place c d e) r)))))
-  looked-paired c d i j Running e g r f = f
-  looked-paired c d i j Done e g r f = f
   looked-paired c d i j Erroneous e g r f = spend-paired tw g (faults-paired tw (tw.matched.builtin no_class_error (omega arith)) r)
+  looked-paired c d i j _ e g r f = f
 
   pub left-paired : (k : EntryKind) → PairedNext tw.numbers tw.place (left_at k) (left_at k)
   left-paired Absent = leave
-  left-paired InMethod = go
-  left-paired (InClass b) = go
+  left-paired _ = go
 
   pub left_alike : {k l : EntryKind} → k ≡ l → PairedNext tw.numbers tw.place (left_at k) (left_at l)
   left_alike {k} e = subst (λ (z : EntryKind). PairedNext tw.numbers tw.place (left_at k) (left_at z)) e (left-paired k)
@@ -122,8 +120,7 @@ module _ (tw : Twins) where
 
   pub raised_in-paired : (k : EntryKind) {v w : Value} {s t : State} → V tw v w → States s t → States (raised_in k v s) (raised_in k w t)
   raised_in-paired Absent r o = record { test = o.test; entries = o.entries; stage = thrown-paired o.stage r; raised = both_none; own = o.own }
-  raised_in-paired InMethod r o = record { test = o.test; entries = o.entries; stage = o.stage; raised = both_some r; own = o.own }
-  raised_in-paired (InClass b) r o = record { test = o.test; entries = o.entries; stage = o.stage; raised = both_some r; own = o.own }
+  raised_in-paired _ r o = record { test = o.test; entries = o.entries; stage = o.stage; raised = both_some r; own = o.own }
 
   pub raise-paired : {v w : Value} {s t : State} → V tw v w → States s t → States (raise v s) (raise w t)
   raise-paired {v} {w} {s} {t} r o = subst (λ (z : EntryKind). States (raise v s) (raised_in z w t)) o.entries.top.kind (raised_in-paired s.entries.top.kind r o)
@@ -202,8 +199,7 @@ module _ (tw : Twins) where
           PairedTurn tw.numbers tw.place tw.left tw.right (cond b x u) (cond b' y v)
       pick-turn true true e r s = r
       pick-turn false false e r s = s
-      pick-turn true false e r s = absurd (cc)
-      pick-turn false true e r s = absurd (cc)
+      pick-turn _ _ e r s = absurd (cc)
 
   pub judged_text-paired : (out : List ℕ) (c d : ℕ) (x y : List ℕ) → C c d → x ≡ y → Turns (judged_text tw.left out c x) (judged_text tw.right out d y)
   judged_text-paired out c d x y e g = subst (λ (z : List ℕ). Turns (judged_text tw.left out c x) (judged_text tw.right out d z)) g (both_spend (length x) (both_done (judged-paired out c d (Some x) e)))
@@ -281,10 +277,9 @@ module _ (tw : Twins) where
         (looked-paired x.class y.class (i + x.price) (j + y.price) c o.class price r (looks-paired (i + x.price) (j + y.price) os price r h)))
 
     pub finishing-paired : (k : EntryKind) {s t : Entries} → s.top.kind ≡ k → E tw s t → Rows tw (finishing k tw.left s) (finishing k tw.right t)
-    finishing-paired Absent h r = stuck_row-paired tw
-    finishing-paired InMethod h r = stuck_row-paired tw
     finishing-paired (InClass false) h r = looks-paired 0 0 (parts-paired _ _ (class_top tw.numbers tw.place r h)) refl r h
     finishing-paired (InClass true) h r = finished-paired r h
+    finishing-paired _ h r = stuck_row-paired tw
 
     pub finish-paired : {s t : Entries} → E tw s t → Rows tw (row_finish tw.left s) (row_finish tw.right t)
     unfolding row_finish

@@ -107,33 +107,21 @@ module _ (base : ℕ) (T : List Touch) where
 
   left_content : {L M : Location} → PairedLocation m L M → (c : Content L) (d : Content M) → PairedContent m L M c d → Fits L c
   left_content (statics e) c d r = left_value r
-  left_content (inits e) c d r = refl
   left_content (heads p) c d r = record { kind = self_kind c.kind; length = refl }
   left_content (at_field p e) c d r = left_value r
   left_content (at_elem i p) c d r = left_value r
-  left_content (texts p) c d r = refl
-  left_content (files n) c d r = refl
-  left_content (props n) c d r = refl
+  left_content _ c d r = refl
 
   right_content : {L M : Location} → PairedLocation m L M → (c : Content L) → Fits L c → (d : Content M) × PairedContent m L M c d
   right_content (statics e) c r = (c, r)
-  right_content (inits e) c r = (c, r)
-  right_content (heads p) c r = (c, r)
-  right_content (at_field p e) c r = (c, r)
-  right_content (at_elem i p) c r = (c, r)
-  right_content (texts p) c r = (c, r)
-  right_content (files n) c r = (c, r)
-  right_content (props n) c r = (c, r)
+  right_content _ c r = (c, r)
 
   place_known : {L M : Location} → PairedLocation m L M → (o : ℕ) → place_of L ≡ Some o → Known o
-  place_known (statics e) o h = absurd (cc)
-  place_known (inits e) o h = absurd (cc)
   place_known (heads {a} p) o h = subst (λ (z : ℕ). Known z) (same_Some _ _ h) p.1
   place_known (at_field {a} p e) o h = subst (λ (z : ℕ). Known z) (same_Some _ _ h) p.1
   place_known (at_elem {a} i p) o h = subst (λ (z : ℕ). Known z) (same_Some _ _ h) p.1
   place_known (texts {a} p) o h = subst (λ (z : ℕ). Known z) (same_Some _ _ h) p.1
-  place_known (files n) o h = absurd (cc)
-  place_known (props n) o h = absurd (cc)
+  place_known _ o h = absurd (cc)
 
   -- what new objects hold is known
   abbrev Held : World → Type 0
@@ -169,7 +157,6 @@ module _ (base : ℕ) (T : List Touch) where
 
     read_fits : {L M : Location} → PairedLocation m L M → (w : World) → Held w → T ≡ ts ++ (read_of L (at w L) ∷ rest) → Fits L (at w L)
     read_fits (statics {f} e) w held t = known_value (at w (place.Static f)) (λ o g. first_read (place.Static f) (at w (place.Static f)) t o g (λ h. inr (_, from_static h refl)))
-    read_fits (inits e) w held t = refl
     read_fits (heads {a} p) w held t = record { kind = self_kind (at w (place.Head a)).kind; length = refl }
     read_fits (at_field {a} {b} {f} p e) w held t = elim p.1 [
       | inl own ↦ held (place.Field a f) a refl own
@@ -179,20 +166,14 @@ module _ (base : ℕ) (T : List Touch) where
       | inl own ↦ held (place.Elem a i) a refl own
       | inr walk ↦ known_value (at w (place.Elem a i)) (λ o g. first_read (place.Elem a i) (at w (place.Elem a i)) t o g (λ h. inr (_, through h refl walk.1)))
     ]
-    read_fits (texts p) w held t = refl
-    read_fits (files n) w held t = refl
-    read_fits (props n) w held t = refl
+    read_fits _ w held t = refl
 
   -- what a read gives is known
   read_known : {L M : Location} → PairedLocation m L M → (c : Content L) → Fits L c → (o : ℕ) → gives (read_of L c) o ≡ true → Known o
   read_known (statics e) c r o g = value_known r o g
-  read_known (inits e) c r o g = absurd (cc)
-  read_known (heads p) c r o g = absurd (cc)
   read_known (at_field p e) c r o g = value_known r o g
   read_known (at_elem i p) c r o g = value_known r o g
-  read_known (texts p) c r o g = absurd (cc)
-  read_known (files n) c r o g = absurd (cc)
-  read_known (props n) c r o g = absurd (cc)
+  read_known _ c r o g = absurd (cc)
 
   given_read : (ts : List Touch) {L M : Location} → PairedLocation m L M → (c : Content L) → Fits L c → AllKnown ts → AllKnown (ts ++ (read_of L c ∷ []))
   given_read ts {L} p c r known o x e = elim (first_of_one ts (read_of L c) o x e) [ inl h ↦ known o x h | inr h ↦ read_known p c r o h ]
@@ -224,9 +205,7 @@ module _ (base : ℕ) (T : List Touch) where
   part_fits {x} r (place.Head o) = record { kind = self_kind x.head.kind; length = refl }
   part_fits r (place.Field o f) = cells_known r.fields f
   part_fits r (place.Elem o i) = elems_known r.elems i
-  part_fits r (place.Text o) = refl
-  part_fits r (place.File n) = refl
-  part_fits r (place.Prop n) = refl
+  part_fits r _ = refl
 
   held_make : (w : World) {x y : Object} → PairedObject m x y → Held w → Held (make_object w x)
   held_make w {x} r held M o e own = elim (is_of_cases M (size w)) [
@@ -282,13 +261,10 @@ nothing_held base T w e L o i h = subst (λ (c : Content L). PairedContent (with
   where
     no_part : (L : Location) → PairedContent (with_places same_numbers (Itself base T)) L L (part no_object L) (part no_object L)
     no_part (place.Static f) = nulls
-    no_part (place.Init c) = refl
     no_part (place.Head o) = record { kind = self_kind no_object.head.kind; length = refl }
     no_part (place.Field o f) = nulls
     no_part (place.Elem o i) = nulls
-    no_part (place.Text o) = refl
-    no_part (place.File n) = refl
-    no_part (place.Prop n) = refl
+    no_part _ = refl
 
 met_at : (base : ℕ) (T ts : List Touch) (y : Touch) (o : ℕ) → Met base T ts → Member y ts → place_of y.location ≡ Some o → Known base T o
 met_at base T [] y o m i e = absurd i
