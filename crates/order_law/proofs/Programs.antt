@@ -134,8 +134,8 @@ module _ (n : Numbers) (p q : Program) (mt : MatchedCode n p q) where
   base_fits-paired shorts shorts = refl
   base_fits-paired int_bases int_bases = refl
   base_fits-paired long_bases long_bases = refl
-
   base_fits-paired _ _ = refl
+
   object-paired : (c d : ℕ) → C c d → nat_eq c object_class ≡ nat_eq d object_class
   object-paired c d e = test-paired mt.one_class c d object_class object_class e (mt.builtin object_class (omega arith))
 
