@@ -1,5 +1,5 @@
-use class_reader::{ClassFault, read_class};
-use std::test::Fail;
+use class_reader::{ClassFault, ClassParts, read_class};
+use std::alloc::Global;
 
 // Class T with itself as an interface, an int field x with the constant 5, an int field U with another
 // attribute, a method t whose code has a handler and a stack map of two entries, and an attribute of its own.
@@ -22,22 +22,35 @@ const FAULTS: [(usize, u8, ClassFault); 4] = [
     (177, 2, ClassFault::BadTarget { method: 1, pc: 2 }),
 ];
 
+fn has_each_part(parts: &ClassParts) -> bool {
+    parts.major == 50
+        && parts.this_class == 2
+        && parts.fields.len() == 2
+        && parts.methods.len() == 1
+}
+
+fn is_read(alloc: Global) -> Result<bool, ClassFault> {
+    let class = read_class(alloc, &PARTS)?;
+    Ok(has_each_part(class.parts()))
+}
+
 #[test]
-fn reads_each_part(rt: HostRuntime) -> Result<(), Fail> {
-    let class = read_class(rt.alloc(), &PARTS)?;
-    let parts = class.parts();
-    assert!(rt; parts.major == 50 && parts.this_class == 2);
-    assert!(rt; parts.fields.len() == 2 && parts.methods.len() == 1);
-    Ok(())
+fn reads_each_part(rt: HostRuntime) {
+    assert!(rt; is_read(rt.alloc()).unwrap_or(false));
+}
+
+// The fault of these bytes with one of them set to another value.
+fn fault_with(alloc: Global, i: usize, value: u8) -> Option<ClassFault> {
+    let mut bytes = PARTS;
+    if i < 211 {
+        bytes[i] = value;
+    }
+    read_class(alloc, &bytes).err()
 }
 
 #[test]
 fn names_the_first_fault(rt: HostRuntime) {
     for (i, value, fault) in FAULTS {
-        let mut bytes = PARTS;
-        if i < 211 {
-            bytes[i] = value;
-        }
-        assert_eq!(rt; read_class(rt.alloc(), &bytes).err(), Some(fault));
+        assert!(rt; fault_with(rt.alloc(), i, value) == Some(fault));
     }
 }

@@ -1,10 +1,9 @@
+use crate::texts::{is_text, names};
 use dep_graph::Detected;
 use dep_record::{RecordRefusal, deps_json, deps_text, digest, prints, read_record, write_record};
 use et_base::{Items, NoMemory, Text};
-use jvm_model::Names;
 use order_law::{Place, Shown};
 use std::alloc::Global;
-use std::test::Fail;
 
 const SUITE: &[u8] = b"electric-suite 1\nclass T.class\ntest T.t\nend\n";
 
@@ -43,37 +42,36 @@ raw 2 2 1 static Counter.n
 end
 ";
 
-fn again(alloc: Global, bytes: &[u8]) -> Result<Text, NoMemory> {
+// Whether the sums over the suite and one class file are those of another program.
+fn are_sums(alloc: Global) -> Result<bool, NoMemory> {
+    let mut classes = Vec::new(alloc);
+    classes.push(Vec::from_slice(alloc, CLASS)?)?;
+    let all = prints(alloc, SUITE, &classes)?;
+    Ok(digest(SUITE, &classes) == DIGEST && all.eager == EAGER)
+}
+
+#[test]
+fn sums_are_those_of_another_program(rt: HostRuntime) {
+    assert!(rt; are_sums(rt.alloc()).unwrap_or(false));
+}
+
+// Whether what is read of these bytes has them as its text.
+fn is_written_again(alloc: Global, bytes: &[u8]) -> bool {
     match read_record(alloc, bytes) {
-        Ok(kept) => write_record(alloc, &kept),
-        Err(_) => Ok(Text::new(alloc)),
+        Ok(kept) => is_text(write_record(alloc, &kept), bytes),
+        Err(_) => false,
     }
 }
 
 #[test]
-fn sums_are_those_of_another_program(rt: HostRuntime) -> Result<(), Fail> {
-    let alloc = rt.alloc();
-    let mut classes = Vec::new(alloc);
-    classes.push(Vec::from_slice(alloc, CLASS)?)?;
-    assert!(rt; digest(SUITE, &classes) == DIGEST);
-    let all = prints(alloc, SUITE, &classes)?;
-    assert!(rt; all.eager == EAGER);
-    Ok(())
+fn a_record_is_written_as_it_was_read(rt: HostRuntime) {
+    assert!(rt; is_written_again(rt.alloc(), NEWER));
 }
 
 #[test]
-fn a_record_is_written_as_it_was_read(rt: HostRuntime) -> Result<(), Fail> {
-    let alloc = rt.alloc();
-    assert!(rt; again(alloc, NEWER)?.as_slice() == NEWER);
-    Ok(())
-}
-
-#[test]
-fn a_faulty_line_is_named(rt: HostRuntime) -> Result<(), Fail> {
-    let alloc = rt.alloc();
-    let refusal = read_record(alloc, OLDER).err();
+fn a_faulty_line_is_named(rt: HostRuntime) {
+    let refusal = read_record(rt.alloc(), OLDER).err();
     assert!(rt; refusal == Some(RecordRefusal::RecordFault { line: 6 }));
-    Ok(())
 }
 
 const REPORT: &[u8] = b"electric-deps 1
@@ -86,43 +84,44 @@ const JSON: &[u8] =
     b"{\"edges\":[{\"count\":1,\"from\":\"Counter.set\",\"kind\":\"raw\",\"locations\":[{\"at\":\"static Counter.n\",\"walk\":[]}],\"to\":\"Counter.show\"}],\"tests\":2}
 ";
 
-fn names(alloc: Global) -> Result<Names, NoMemory> {
-    let mut tests = Items::new(alloc);
-    tests.push(Text::from_slice(alloc, b"Counter.set")?)?;
-    tests.push(Text::from_slice(alloc, b"Counter.show")?)?;
-    Ok(Names {
-        tests,
-        classes: Items::new(alloc),
-        fields: Items::new(alloc),
-    })
-}
-
-fn counter(alloc: Global) -> Result<Option<Detected>, NoMemory> {
-    let Ok(kept) = read_record(alloc, NEWER) else {
-        return Ok(None);
-    };
+// What is shown of the record's one edge.
+fn shown(alloc: Global) -> Result<Items<Shown>, NoMemory> {
+    let at = Text::from_slice(alloc, b"static Counter.n")?;
+    let walk = Items::new(alloc);
     let mut places = Items::new(alloc);
-    places.push(Place {
-        at: Text::from_slice(alloc, b"static Counter.n")?,
-        walk: Items::new(alloc),
-    })?;
+    places.push(Place { at, walk })?;
     let mut shown = Items::new(alloc);
     shown.push(Shown { places })?;
-    if shown.len() != kept.edges.len() {
-        return Ok(None);
+    Ok(shown)
+}
+
+fn counter(alloc: Global) -> Option<Detected> {
+    let shown = shown(alloc).ok()?;
+    let kept = read_record(alloc, NEWER).ok()?;
+    if shown.len() == kept.edges.len() {
+        Some(Detected { kept, shown })
+    } else {
+        None
     }
-    Ok(Some(Detected { kept, shown }))
+}
+
+// Whether both reports on what was detected are these.
+fn are_reports(alloc: Global, detected: &Detected) -> Result<bool, NoMemory> {
+    let names = names(alloc, &[b"Counter.set", b"Counter.show"])?;
+    Ok(
+        is_text(deps_text(alloc, detected, &names), REPORT)
+            && is_text(deps_json(alloc, detected, &names), JSON),
+    )
+}
+
+fn is_reported(alloc: Global) -> bool {
+    match counter(alloc) {
+        Some(detected) => are_reports(alloc, &detected).unwrap_or(false),
+        None => false,
+    }
 }
 
 #[test]
-fn the_reports_on_a_counter(rt: HostRuntime) -> Result<(), Fail> {
-    let alloc = rt.alloc();
-    let names = names(alloc)?;
-    let Some(detected) = counter(alloc)? else {
-        assert!(rt; false);
-        return Ok(());
-    };
-    assert!(rt; deps_text(alloc, &detected, &names)?.as_slice() == REPORT);
-    assert!(rt; deps_json(alloc, &detected, &names)?.as_slice() == JSON);
-    Ok(())
+fn the_reports_on_a_counter(rt: HostRuntime) {
+    assert!(rt; is_reported(rt.alloc()));
 }

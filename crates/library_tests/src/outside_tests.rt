@@ -2,6 +2,7 @@
 
 ghost use Rattle.std.specs.Prelude.{◌≡◌, ◌<◌};
 
+use crate::texts::{File, files};
 use et_base::{NoMemory, Text};
 use outside::{
     Depot, DepotRefusal, FolderDepot, Gate, MemoryDepot, MemorySink, OpenGate, QuietDepot,
@@ -10,57 +11,72 @@ use outside::{
 use std::alloc::Global;
 use std::marker::Brand;
 use std::sync::ledger::{Blank, Ledger};
-use std::test::Fail;
 
-fn text(alloc: Global, bytes: &[u8]) -> Result<Text, NoMemory> {
-    Ok(Text::from_vec(Vec::from_slice(alloc, bytes)?))
+// The second file has a name that stands already.
+const FILES: [File; 2] = [(b"s", b"suite"), (b"s", b"other")];
+
+// Whether these bytes were read.
+fn is_read(read: Result<Vec<u8>, DepotRefusal>, bytes: &[u8]) -> bool {
+    match read {
+        Ok(read) => read.as_slice() == bytes,
+        Err(_) => false,
+    }
 }
 
-// Two files, of which the second has a name that stands already.
-fn files(alloc: Global) -> Result<Vec<(Text, Vec<u8>)>, NoMemory> {
-    let mut files = Vec::new(alloc);
-    files.push((text(alloc, b"s")?, Vec::from_slice(alloc, b"suite")?))?;
-    files.push((text(alloc, b"s")?, Vec::from_slice(alloc, b"other")?))?;
-    Ok(files)
-}
-
-#[test]
-fn a_memory_depot_fails_at_its_second_call(rt: HostRuntime) -> Result<(), Fail> {
-    let alloc = rt.alloc();
-    let name = text(alloc, b"s")?;
+fn memory_depot(alloc: Global) -> Result<MemoryDepot, NoMemory> {
     let fail = Vec::from_slice(alloc, &[2])?;
-    let mut depot = MemoryDepot::new(alloc, files(alloc)?, fail)?;
-    assert_eq!(rt; depot.read(&name, 5)?.as_slice(), b"suite".as_slice());
-    assert!(rt; matches!(depot.read(&name, 5), Err(DepotRefusal::Failed)));
-    Ok(())
+    let files = files(alloc, &FILES)?;
+    MemoryDepot::new(alloc, files, fail)
+}
+
+// Whether the first call reads the first file, and the second fails.
+fn fails_at_its_second_call(alloc: Global) -> Result<bool, NoMemory> {
+    let name = Text::from_slice(alloc, b"s")?;
+    let mut depot = memory_depot(alloc)?;
+    let first = is_read(depot.read(&name, 5), b"suite");
+    let second = depot.read(&name, 5).err();
+    Ok(first && second == Some(DepotRefusal::Failed))
 }
 
 #[test]
-fn a_quiet_depot_reads(rt: HostRuntime) -> Result<(), Fail> {
-    let alloc = rt.alloc();
-    let name = text(alloc, b"s")?;
-    let mut depot = QuietDepot::new(alloc, files(alloc)?);
-    assert_eq!(rt; depot.read(&name, 5)?.as_slice(), b"suite".as_slice());
-    Ok(())
+fn a_memory_depot_fails_at_its_second_call(rt: HostRuntime) {
+    assert!(rt; fails_at_its_second_call(rt.alloc()).unwrap_or(false));
+}
+
+fn reads_the_first_file(alloc: Global) -> Result<bool, NoMemory> {
+    let name = Text::from_slice(alloc, b"s")?;
+    let mut depot = QuietDepot::new(alloc, files(alloc, &FILES)?);
+    Ok(is_read(depot.read(&name, 5), b"suite"))
+}
+
+#[test]
+fn a_quiet_depot_reads(rt: HostRuntime) {
+    assert!(rt; reads_the_first_file(rt.alloc()).unwrap_or(false));
 }
 
 // Each line is one piece, so failing at call 2 leaves the first line.
-#[test]
-fn a_memory_sink_holds_the_lines_before_a_fault(rt: HostRuntime) -> Result<(), Fail> {
-    let alloc = rt.alloc();
-    let mut sink = MemorySink::new(alloc, 1000, Vec::from_slice(alloc, &[2])?);
+fn holds_the_first_line(alloc: Global) -> Result<bool, NoMemory> {
+    let fail = Vec::from_slice(alloc, &[2])?;
+    let mut sink = MemorySink::new(alloc, 1000, fail);
     sink.reserve(100)?;
-    assert!(rt; write_text(&mut sink, b"one\ntwo\nend").is_err());
-    assert_eq!(rt; sink.held(), b"one\n".as_slice());
-    Ok(())
+    let fails = write_text(&mut sink, b"one\ntwo\nend").is_err();
+    Ok(fails && sink.held() == b"one\n".as_slice())
 }
 
 #[test]
-fn a_text_is_written_byte_by_byte(rt: HostRuntime) -> Result<(), Fail> {
-    let mut sink = QuietSink::new(rt.alloc(), 1, 8)?;
-    assert!(rt; write_text(&mut sink, b"one\ntwo\n").is_ok());
-    assert_eq!(rt; sink.held(), b"one\ntwo\n".as_slice());
-    Ok(())
+fn a_memory_sink_holds_the_lines_before_a_fault(rt: HostRuntime) {
+    assert!(rt; holds_the_first_line(rt.alloc()).unwrap_or(false));
+}
+
+fn holds_both_lines(alloc: Global) -> Result<bool, NoMemory> {
+    let mut sink = QuietSink::new(alloc, 1, 8)?;
+    let ends = write_text(&mut sink, b"one\ntwo\n").is_ok();
+    Ok(ends && sink.held() == b"one\ntwo\n".as_slice())
+}
+
+#[test]
+fn a_text_is_written_byte_by_byte(rt: HostRuntime) {
+    assert!(rt; holds_both_lines(rt.alloc()).unwrap_or(false));
 }
 
 #[test]
@@ -69,24 +85,26 @@ fn standard_output_takes_a_text(rt: HostRuntime) {
     assert!(rt; write_text(&mut sink, b"written\n").is_ok());
 }
 
-#[test]
-fn a_folder_reads_a_file(rt: HostRuntime) -> Result<(), Fail> {
+// What the folder of the tests has under this name.
+fn read_in_folder(rt: &HostRuntime, name: &[u8]) -> Result<Vec<u8>, DepotRefusal> {
     let alloc = rt.alloc();
-    std::fs::write(&rt, "outside-test-file", "five!")?;
-    let mut depot = FolderDepot::new(&rt, alloc, String::from_str(alloc, ".")?);
-    let name = text(alloc, b"outside-test-file")?;
-    assert_eq!(rt; depot.read(&name, 5)?.as_slice(), b"five!".as_slice());
-    std::fs::remove_file(&rt, "outside-test-file")?;
-    Ok(())
+    let name = Text::from_slice(alloc, name)?;
+    let folder = String::from_str(alloc, ".")?;
+    let mut depot = FolderDepot::new(rt, alloc, folder);
+    depot.read(&name, 5)
 }
 
 #[test]
-fn a_folder_lacks_a_file(rt: HostRuntime) -> Result<(), Fail> {
-    let alloc = rt.alloc();
-    let mut depot = FolderDepot::new(&rt, alloc, String::from_str(alloc, ".")?);
-    let missing = text(alloc, b"missing-test-file")?;
-    assert!(rt; matches!(depot.read(&missing, 5), Err(DepotRefusal::Absent)));
-    Ok(())
+fn a_folder_reads_a_file(rt: HostRuntime) {
+    assert!(rt; std::fs::write(&rt, "outside-test-file", "five!").is_ok());
+    assert!(rt; is_read(read_in_folder(&rt, b"outside-test-file"), b"five!"));
+    assert!(rt; std::fs::remove_file(&rt, "outside-test-file").is_ok());
+}
+
+#[test]
+fn a_folder_lacks_a_file(rt: HostRuntime) {
+    let missing = read_in_folder(&rt, b"missing-test-file").err();
+    assert!(rt; missing == Some(DepotRefusal::Absent));
 }
 
 // What a ledger counts is known at its own name alone.

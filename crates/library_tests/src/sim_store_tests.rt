@@ -1,23 +1,24 @@
 use et_base::{NoMemory, Units};
 use sim_store::{Part, Store};
 use std::alloc::Global;
-use std::test::Fail;
 
-fn units(alloc: Global, text: &[u16]) -> Result<Units, NoMemory> {
-    Units::from_slice(alloc, text)
-}
+const NAME: [u16; 1] = [97];
 
 // A file with a text, and nothing else.
-fn file(alloc: Global, name: Units) -> Result<Store, NoMemory> {
+fn file(alloc: Global) -> Result<Store, NoMemory> {
+    let name = Units::from_slice(alloc, &NAME)?;
     let mut store = Store::new(alloc);
     store.put(Part::File, name, Some(Units::new(alloc)))?;
     Ok(store)
 }
 
+fn has_the_file_alone(alloc: Global) -> Result<bool, NoMemory> {
+    let name = Units::from_slice(alloc, &NAME)?;
+    let store = file(alloc)?;
+    Ok(store.has(Part::File, &name) && !store.has(Part::Prop, &name))
+}
+
 #[test]
-fn a_store_keeps_files_and_properties_apart(rt: HostRuntime) -> Result<(), Fail> {
-    let store = file(rt.alloc(), units(rt.alloc(), &[97])?)?;
-    let name = units(rt.alloc(), &[97])?;
-    assert!(rt; store.has(Part::File, &name) && !store.has(Part::Prop, &name));
-    Ok(())
+fn a_store_keeps_files_and_properties_apart(rt: HostRuntime) {
+    assert!(rt; has_the_file_alone(rt.alloc()).unwrap_or(false));
 }
