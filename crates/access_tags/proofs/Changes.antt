@@ -50,8 +50,7 @@ put_cells w (place.Head o) v h = ap (λ ls. statics_of w ++ (states_of w ++ ls))
 put_cells w (place.Field o f) v h = ap (λ ls. statics_of w ++ (states_of w ++ ls)) (parts_set 0 w.objects o (record (object_at w o) { fields = keep nat_eq (object_at w o).fields f v }) h.0 (record { fields = keys_kept (object_at w o).fields f v h.1; elems = refl }))
 put_cells w (place.Elem o i) v h = ap (λ ls. statics_of w ++ (states_of w ++ ls)) (parts_set 0 w.objects o (record (object_at w o) { elems = put_at _ (object_at w o).elems i v }) h.0 (record { fields = refl; elems = length_put_at _ (object_at w o).elems i v h.1 }))
 put_cells w (place.Text o) v h = ap (λ ls. statics_of w ++ (states_of w ++ ls)) (parts_set 0 w.objects o (record (object_at w o) { text = Some v }) h (record { fields = refl; elems = refl }))
-put_cells w (place.File n) v h = refl
-put_cells w (place.Prop n) v h = refl
+put_cells w _ v h = refl
 
 pub put_bases : (w : World) (L : Location) (v : Content L) → Exists w L → bases_of (put w L v) ≡ bases_of w
 put_bases w (place.Static f) v h = ap (λ (n : ℕ). bases (n + length w.states) w.objects) (length_put_at _ w.statics f v h)
@@ -60,8 +59,7 @@ put_bases w (place.Head o) v h = bases_set (length w.statics + length w.states) 
 put_bases w (place.Field o f) v h = bases_set (length w.statics + length w.states) w.objects o (record (object_at w o) { fields = keep nat_eq (object_at w o).fields f v }) h.0 (record { fields = keys_kept (object_at w o).fields f v h.1; elems = refl })
 put_bases w (place.Elem o i) v h = bases_set (length w.statics + length w.states) w.objects o (record (object_at w o) { elems = put_at _ (object_at w o).elems i v }) h.0 (record { fields = refl; elems = length_put_at _ (object_at w o).elems i v h.1 })
 put_bases w (place.Text o) v h = bases_set (length w.statics + length w.states) w.objects o (record (object_at w o) { text = Some v }) h (record { fields = refl; elems = refl })
-put_bases w (place.File n) v h = refl
-put_bases w (place.Prop n) v h = refl
+put_bases w _ v h = refl
 
 -- one object more
 all_parts_more : (a : ℕ) (xs : List Object) (x : Object) → all_parts a (xs ++ x ∷ []) ≡ all_parts a xs ++ parts (a + length xs) x

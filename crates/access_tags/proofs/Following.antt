@@ -97,24 +97,15 @@ laid_elems : (p : Program) (x : Object) (i : ℕ) (v d : Value) → i < length x
 laid_elems p x i v d h l = record { fields = l.fields; elems = λ j. l.elems (omega arith) }
 
 laid_put : (p : Program) (w : World) (L : Location) (v : Content L) (o : ℕ) → is_cell L ≡ true → Exists w L → ((a : ℕ) → a < size w → IsLaid p (object_at w a)) → o < size w → IsLaid p (object_at (put w L v) o)
-laid_put p w (place.Static f) v o c e l h = l o h
-laid_put p w (place.Init f) v o c e l h = l o h
 laid_put p w (place.Head a) v o c e l h = absurd (cc)
 laid_put p w (place.Field a f) v o c e l h = laid_set p w.objects a o _ e.0 (laid_fields p (object_at w a) f v e.1 (l a e.0)) (l o h)
 laid_put p w (place.Elem a i) v o c e l h = laid_set p w.objects a o _ e.0 (laid_elems p (object_at w a) i v _ e.1 (l a e.0)) (l o h)
 laid_put p w (place.Text a) v o c e l h = laid_set p w.objects a o _ e (record { fields = (l a e).fields; elems = (l a e).elems }) (l o h)
-laid_put p w (place.File n) v o c e l h = l o h
-laid_put p w (place.Prop n) v o c e l h = l o h
+laid_put p w _ v o c e l h = l o h
 
 statics_put : (w : World) (L : Location) (v : Content L) → Exists w L → length (put w L v).statics ≡ length w.statics
 statics_put w (place.Static f) v h = length_put_at _ w.statics f v h
-statics_put w (place.Init f) v h = refl
-statics_put w (place.Head a) v h = refl
-statics_put w (place.Field a f) v h = refl
-statics_put w (place.Elem a i) v h = refl
-statics_put w (place.Text a) v h = refl
-statics_put w (place.File n) v h = refl
-statics_put w (place.Prop n) v h = refl
+statics_put w _ v h = refl
 
 numbered_put : (w : World) (n : Numbers) (L : Location) (v : Content L) → is_cell L ≡ true → Exists w L → IsNumbered w n → IsNumbered (put w L v) n
 numbered_put w n L v c e i = let s = size_put w L v in record {
@@ -131,14 +122,11 @@ head_set xs a o y h e = elim (cases_eq o a) [
 ]
 
 head_put : (w : World) (L : Location) (v : Content L) (o : ℕ) → is_cell L ≡ true → Exists w L → (object_at (put w L v) o).head ≡ (object_at w o).head
-head_put w (place.Static f) v o c e = refl
-head_put w (place.Init f) v o c e = refl
 head_put w (place.Head a) v o c e = absurd (cc)
 head_put w (place.Field a f) v o c e = head_set w.objects a o _ e.0 refl
 head_put w (place.Elem a i) v o c e = head_set w.objects a o _ e.0 refl
 head_put w (place.Text a) v o c e = head_set w.objects a o _ e refl
-head_put w (place.File n) v o c e = refl
-head_put w (place.Prop n) v o c e = refl
+head_put w _ v o c e = refl
 
 -- a call that writes
 pub after_put : {W : ℕ} (m : TaggedMemory W) (k : Kept) (L : Location) (v : Content L) (h : Trace) (ts : List Touch) → is_cell L ≡ true → Exists m.memory.world L → k.program ≡ m.memory.program → k.world ≡ put m.memory.world L v →
@@ -168,8 +156,7 @@ exists_put w (place.Head a) v c e = absurd (cc)
 exists_put w (place.Field a f) v c e = let s = size_put w (place.Field a f) v in (omega arith, rw (get_or-set_same w.objects a _ no_object e.0) (rw (keys_kept (object_at w a).fields f v e.1) e.1))
 exists_put w (place.Elem a i) v c e = let s = size_put w (place.Elem a i) v in let l = length_put_at Null (object_at w a).elems i v e.1 in (omega arith, rw (get_or-set_same w.objects a _ no_object e.0) (omega arith))
 exists_put w (place.Text a) v c e = let s = size_put w (place.Text a) v in omega arith
-exists_put w (place.File n) v c e = tt
-exists_put w (place.Prop n) v c e = tt
+exists_put w _ v c e = tt
 
 -- what the parts that a memory keeps say of one more touch
 pub record NotesOne {W : ℕ} (m : TaggedMemory W) (g : Tags) (a : DiscoveryTree) (b : Heads) (x : Touch) : Type 0 where
@@ -201,14 +188,8 @@ noted m g a b x h ts n f = record {
 
 -- the kind that is told with a touch, where these are the kinds of all objects
 pub kind_at : (kinds : ℕ → ℕ → Kind) (w : World) (u : ℕ) (L : Location) (k : Option Kind) → AreKinds kinds w → Exists w L → IsKindAt (λ o. (at w (place.Head o)).kind) L k → IsKindAt (kinds u) L k
-kind_at kinds w u (place.Static f) k a e q = q
-kind_at kinds w u (place.Init f) k a e q = q
 kind_at kinds w u (place.Head o) k a e q = q ∙ ap Some (sym (a u o e))
-kind_at kinds w u (place.Field o f) k a e q = q
-kind_at kinds w u (place.Elem o i) k a e q = q
-kind_at kinds w u (place.Text o) k a e q = q
-kind_at kinds w u (place.File n) k a e q = q
-kind_at kinds w u (place.Prop n) k a e q = q
+kind_at kinds w u _ k a e q = q
 
 -- a touch that was noted after a call of the memory
 pub read_noted : {W : ℕ} (m n : TaggedMemory W) (k : Kept) (s : LocationKey) (g : Option ℕ) (d : Option Kind) (x : Touch) → is_name s ≡ false → Exists m.memory.world (located [] s) → k.program ≡ m.memory.program → k.world ≡ m.memory.world →
@@ -217,24 +198,12 @@ read_noted m n k s g d x i e p q w l v a told h ts f = told x i (subst (λ (z : 
     (subst (λ (z : World). IsKindAt (λ o. (at z (place.Head o)).kind) (located [] s) d) (sym q) a) (rw w refl) h ts (after_read m k h ts p q f)
 
 cell_size : (n : ℕ) (L : Location) → is_cell L ≡ true → with_head n L ≡ n
-cell_size n (place.Static f) c = refl
-cell_size n (place.Init f) c = refl
 cell_size n (place.Head o) c = absurd (cc)
-cell_size n (place.Field o f) c = refl
-cell_size n (place.Elem o i) c = refl
-cell_size n (place.Text o) c = refl
-cell_size n (place.File a) c = refl
-cell_size n (place.Prop a) c = refl
+cell_size n _ c = refl
 
 cell_kind : (kinds : ℕ → Kind) (L : Location) → is_cell L ≡ true → IsKindAt kinds L None
-cell_kind kinds (place.Static f) c = refl
-cell_kind kinds (place.Init f) c = refl
 cell_kind kinds (place.Head o) c = absurd (cc)
-cell_kind kinds (place.Field o f) c = refl
-cell_kind kinds (place.Elem o i) c = refl
-cell_kind kinds (place.Text o) c = refl
-cell_kind kinds (place.File a) c = refl
-cell_kind kinds (place.Prop a) c = refl
+cell_kind kinds _ c = refl
 
 pub write_noted : {W : ℕ} (m n : TaggedMemory W) (k : Kept) (s : LocationKey) (v : Content (located [] s)) → is_name s ≡ false → is_cell (located [] s) ≡ true → Exists m.memory.world (located [] s) → k.program ≡ m.memory.program →
     k.world ≡ put m.memory.world (located [] s) v → HasNoted (record m { memory = k }) n s true None None → Extends Follows m n (write_of (located [] s) ∷ [])

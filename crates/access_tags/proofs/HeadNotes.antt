@@ -59,8 +59,7 @@ apart n u c t d h k e = elim (cases_order u t) [
 
 both_false : (a b : Bool) → ((a ≡ true) → (b ≡ true) → ⊥) → (a && b) ≡ false
 both_false true true f = absurd (f refl refl)
-both_false true false f = refl
-both_false false b f = refl
+both_false _ _ f = refl
 
 pub one_marked : (n : ℕ) (ms ns : List Bool) (t d at : ℕ) → at ≡ t * n + d → d < n → ((i : ℕ) → get_or ns i false ≡ get_or ms i false) → at < length ns →
     (u c : ℕ) → c < n → is_marked n (set ns at true) u c ≡ (is_marked n ms u c || (nat_eq u t && nat_eq d c))
@@ -78,8 +77,7 @@ marked_again n ms t d e u c = again (nat_eq u t) (nat_eq d c) (λ a b. ap (λ (i
   where
     again : (a b : Bool) → ((a ≡ true) → (b ≡ true) → is_marked n ms u c ≡ true) → is_marked n ms u c ≡ (is_marked n ms u c || (a && b))
     again true true f = rw (f refl refl) refl
-    again true false f = sym (or-false (is_marked n ms u c))
-    again false b f = sym (or-false (is_marked n ms u c))
+    again _ _ f = sym (or-false (is_marked n ms u c))
 
 -- classes that are looked at one after another
 pub class_more : (c d : ℕ) (m g a b e : Bool) → b ≡ (a || ((nat_lt c d && m) && g)) → (c ≡ d → m ≡ true) → e ≡ (b || (nat_eq c d && g)) → e ≡ (a || ((nat_lt c (d + 1) && m) && g))

@@ -11,16 +11,14 @@ use Rattle.access_tags.specs.Tag.{mark, marked, is_new, places}
 
 written_bool : (a b w c : Bool) → cond a (b || (w || c)) (w || c) ≡ cond a (b || w) w || c
 written_bool true true w c = refl
-written_bool true false w c = refl
-written_bool false b w c = refl
+written_bool _ _ w c = refl
 
 pub written_more : (ts : List Touch) (x : Touch) (l : Location) → written (ts ++ x ∷ []) l ≡ written ts l || (x.write && same l x.location)
 written_more [] x l = base x.write (same l x.location)
   where
     base : (a b : Bool) → cond a (b || false) false ≡ a && b
     base true true = refl
-    base true false = refl
-    base false b = refl
+    base _ _ = refl
 written_more (y ∷ ts) x l = rw (written_more ts x l) (written_bool y.write (same l y.location) (written ts l) (x.write && same l x.location))
 
 exposed_bool : (a b e p q w : Bool) → cond a (not b && (e || (p && (q && not w)))) (b || (e || (p && (q && not w)))) ≡ cond a (not b && e) (b || e) || (p && (q && not (cond a (b || w) w)))
@@ -79,10 +77,10 @@ last_one : (b : Bool) (l m : Location) → filter (λ (n : Location). not (same 
 last_one b l m = rw (swap_same l m) (by_bool b (same l m) refl)
   where
     by_bool : (b c : Bool) → same l m ≡ c → filter (λ (n : Location). not (same l n)) (cond b [] (m ∷ [])) ≡ cond (c || b) [] (m ∷ [])
-    by_bool true true e = refl
-    by_bool true false e = refl
     by_bool false true e = rw e
     by_bool false false e = rw e
+    by_bool true true e = refl
+    by_bool true false e = refl
 
 first_more : (ls : List Location) (m : Location) → first_places (ls ++ m ∷ []) ≡ first_places ls ++ cond (list_any (same m) ls) [] (m ∷ [])
 first_more [] m = refl

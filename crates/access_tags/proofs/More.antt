@@ -91,13 +91,8 @@ module _ (n : Numbering) (T : Touches) (t : ℕ) (ts : List Touch) (c d : ℕ �
   ]
 
   located_more : (y : LocationKey) → is_named (located n.names y) ≡ is_name y → located (n.names ++ ls) y ≡ located n.names y
-  located_more (spot.Static f) h = refl
-  located_more (spot.Init f) h = refl
-  located_more (spot.Head o) h = refl
-  located_more (spot.Field o f) h = refl
-  located_more (spot.Elem o i) h = refl
-  located_more (spot.Text o) h = refl
   located_more (spot.Named k) h = get_or_append_left n.names ls (place.Static 0) k (name_there n.names k h)
+  located_more _ h = refl
 
   placed_names : (x : Touched) → IsPlaced n x → IsPlaced (with_names n ls) x
   placed_names x p = subst (λ (M : Location). IsAt (with_names n ls) x M) (sym (located_more x.spot p.kind)) (record { kind = p.kind; at = p.at ∙ by_sort (is_named (located n.names x.spot)) p.there; there = there_sort (is_named (located n.names x.spot)) p.there })

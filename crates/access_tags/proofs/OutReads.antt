@@ -20,13 +20,8 @@ named_static L f e = elim (cases_Bool (same L (place.Static f))) [
 ]
 
 static_there : (names : List Location) (y : LocationKey) (f : ℕ) → is_named (located names y) ≡ is_name y → is_static y f ≡ same (located names y) (place.Static f)
-static_there names (spot.Static g) f e = refl
-static_there names (spot.Init c) f e = refl
-static_there names (spot.Head o) f e = refl
-static_there names (spot.Field o g) f e = refl
-static_there names (spot.Elem o i) f e = refl
-static_there names (spot.Text o) f e = refl
 static_there names (spot.Named k) f e = sym (named_static (located names (spot.Named k)) f e)
+static_there names _ f e = refl
 
 module _ (n : Numbering) (T : Touches) (t : ℕ) (ts : List Touch) (c d : ℕ → Tag) (xs : List Touched) (s : StandFor n T t ts c d xs) (f : ℕ) where
   one_read : (y : Touched) → IsPlaced n y → (not (tag_at c d y).mark.exposed || is_static y.spot f) ≡ (not (exposed ts (located n.names y.spot)) || same (located n.names y.spot) (place.Static f))

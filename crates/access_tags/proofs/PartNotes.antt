@@ -24,22 +24,12 @@ use Rattle.access_tags.proofs.Spread.{numbers_law}
 
 -- a spot that is no name is a location whatever the names
 pub spot_alone : (names : List Location) (s : LocationKey) → is_name s ≡ false → located names s ≡ located [] s
-spot_alone names (spot.Static f) e = refl
-spot_alone names (spot.Init c) e = refl
-spot_alone names (spot.Head o) e = refl
-spot_alone names (spot.Field o f) e = refl
-spot_alone names (spot.Elem o i) e = refl
-spot_alone names (spot.Text o) e = refl
 spot_alone names (spot.Named k) e = absurd (cc)
+spot_alone names _ e = refl
 
 not_named : (s : LocationKey) → is_name s ≡ false → is_named (located [] s) ≡ false
-not_named (spot.Static f) e = refl
-not_named (spot.Init c) e = refl
-not_named (spot.Head o) e = refl
-not_named (spot.Field o f) e = refl
-not_named (spot.Elem o i) e = refl
-not_named (spot.Text o) e = refl
 not_named (spot.Named k) e = absurd (cc)
+not_named _ e = refl
 
 pub placed : (w : World) (names : List Location) (s : LocationKey) (n : ℕ) → is_name s ≡ false → Exists w (located [] s) → n ≡ number_in w (located [] s) → IsPlaced (numbering_in w names) (record { spot = s; at = n })
 placed w names s n e h a =

@@ -24,10 +24,9 @@ use Rattle.access_tags.proofs.Shows.{take_more, walk_shown}
 -- two lists in pairs, one pair more
 module _ {A B C : Type 0} (f : A → B → C) where
   pub zipped_more : (xs : List A) (ys : List B) (i : ℕ) (d : A) (e : B) → i < length xs → i < length ys → take i (zipped f xs ys) ++ f (get_or xs i d) (get_or ys i e) ∷ [] ≡ take (i + 1) (zipped f xs ys)
-  zipped_more [] ys i d e h k = absurd (omega arith)
-  zipped_more (x ∷ xs) [] i d e h k = absurd (omega arith)
   zipped_more (x ∷ xs) (y ∷ ys) zero d e h k = refl
   zipped_more (x ∷ xs) (y ∷ ys) (suc i) d e h k = let n : suc (i + 1) ≡ suc i + 1 = omega arith in ap (λ (zs : List C). f x y ∷ zs) (zipped_more xs ys i d e (omega arith) (omega arith)) ∙ ap (λ (j : ℕ). take j (f x y ∷ zipped f xs ys)) n
+  zipped_more _ _ i d e h k = absurd (omega arith)
 
   pub zipped_read : (xs : List A) (ys : List B) (i : ℕ) (d x : A) (e y : B) → i < length xs → i < length ys → x ≡ get_or xs i d → y ≡ get_or ys i e → take i (zipped f xs ys) ++ f x y ∷ [] ≡ take (i + 1) (zipped f xs ys)
   zipped_read xs ys i d x e y h k p q = subst (λ (a : A). take i (zipped f xs ys) ++ f a y ∷ [] ≡ take (i + 1) (zipped f xs ys)) (sym p) (subst (λ (b : B). take i (zipped f xs ys) ++ f (get_or xs i d) b ∷ [] ≡ take (i + 1) (zipped f xs ys)) (sym q) (zipped_more xs ys i d e h k))
@@ -36,9 +35,8 @@ module _ {A B C : Type 0} (f : A → B → C) where
   zipped_on zs xs ys i d x e y h k p q = append_assoc zs (take i (zipped f xs ys)) (f x y ∷ []) ∙ ap (λ (us : List C). zs ++ us) (zipped_read xs ys i d x e y h k p q)
 
   zipped_few : (xs : List A) (ys : List B) → length (zipped f xs ys) ≤ min (length xs) (length ys)
-  zipped_few [] ys = omega arith
-  zipped_few (x ∷ xs) [] = omega arith
   zipped_few (x ∷ xs) (y ∷ ys) = let h = zipped_few xs ys in omega arith
+  zipped_few _ _ = omega arith
 
   pub zipped_all : (xs : List A) (ys : List B) (i : ℕ) → min (length xs) (length ys) ≤ i → take i (zipped f xs ys) ≡ zipped f xs ys
   zipped_all xs ys i h = take_all i (zipped f xs ys) (let k = zipped_few xs ys in omega arith)
@@ -49,11 +47,9 @@ mapped_on {A} {B} f zs xs i d x h p = append_assoc zs (map f (take i xs)) (f x �
 
 -- members of lists
 take_member : (i : ℕ) (ls : List Location) (L : Location) → Member L (take i ls) → Member L ls
-take_member zero [] L m = absurd m
-take_member zero (M ∷ ls) L m = absurd m
-take_member (suc i) [] L m = absurd m
 take_member (suc i) (M ∷ ls) L (inl q) = inl q
 take_member (suc i) (M ∷ ls) L (inr m) = inr (take_member i ls L m)
+take_member _ _ L m = absurd m
 
 mapped_member : (names : List Location) (xs : List LocationKey) (x : LocationKey) → Member x xs → Member (located names x) (map (located names) xs)
 mapped_member names [] x m = absurd m
@@ -84,23 +80,17 @@ module _ (p : Program) (T : Touches) (by : ℕ → ℕ × ℕ) where
 
   pub test_edges : (names : List Location) (t : ℕ) (rs : List Row) (es : List Edge) → map (shown_by p by names t) rs ≡ map (with_places T t) es → map (edge_by p by names t) rs ≡ es
   test_edges names t [] [] q = refl
-  test_edges names t [] (e ∷ es) q = absurd (cc)
-  test_edges names t (r ∷ rs) [] q = absurd (cc)
   test_edges names t (r ∷ rs) (e ∷ es) q =
       let head : shown_by p by names t r ≡ with_places T t e = (cc) in
       let rest : map (shown_by p by names t) rs ≡ map (with_places T t) es = (cc) in
       let one : edge_by p by names t r ≡ e = ap (λ (z : Edge × List Location). z.0) head in rw one (ap (λ (z : List Edge). e ∷ z) (test_edges names t rs es rest))
+  test_edges names t _ _ q = absurd (cc)
 
   module _ (names : List Location) (named : (k : ℕ) → place_of (get_or names k (place.Static 0)) ≡ None) where
     -- the object of a part is that of its location
     object_there : (x : LocationKey) → place_of (located names x) ≡ object_of x
-    object_there (spot.Static f) = refl
-    object_there (spot.Init c) = refl
-    object_there (spot.Head o) = refl
-    object_there (spot.Field o f) = refl
-    object_there (spot.Elem o i) = refl
-    object_there (spot.Text o) = refl
     object_there (spot.Named k) = named k
+    object_there _ = refl
 
     -- what is shown of parts to whose objects there are walks
     place_shown : (ts : List Touch) (x : LocationKey) (w : List LocationKey) → IsWalkOf ts x w → ((o : ℕ) → object_of x ≡ Some o → (ys : List Touch) × Walk ts o ys) → IsPlaceIn p by ts (located names x) (place_by p by names x w)
@@ -112,9 +102,8 @@ module _ (p : Program) (T : Touches) (by : ℕ → ℕ × ℕ) where
     places_shown : (ts : List Touch) (xs : List LocationKey) (ws : List (List LocationKey)) → PairedList (IsWalkOf ts) xs ws →
         ((x : LocationKey) (o : ℕ) → Member x xs → object_of x ≡ Some o → (ys : List Touch) × Walk ts o ys) → PairedList (IsPlaceIn p by ts) (map (located names) xs) (places_by p by names xs ws)
     places_shown ts [] [] no_more f = no_more
-    places_shown ts [] (w ∷ ws) r f = elim r [ ]
-    places_shown ts (x ∷ xs) [] r f = elim r [ ]
     places_shown ts (x ∷ xs) (w ∷ ws) (one_more r rs) f = one_more (place_shown ts x w r (λ o e. f x o (inl refl) e)) (places_shown ts xs ws rs (λ y o m. f y o (inr m)))
+    places_shown ts _ _ r f = elim r [ ]
 
     -- what is shown of the rows of a test
     module _ (t : ℕ) (ht : IsTestNumber p t) (walks : HaveWalks p T) where
@@ -128,8 +117,6 @@ module _ (p : Program) (T : Touches) (by : ℕ → ℕ × ℕ) where
       pub rows_shown : (rs : List Row) (es : List Edge) (wss : List (List (List LocationKey))) → map (shown_by p by names t) rs ≡ map (with_places T t) es → HaveRowsWalks (T t) rs wss →
           ((e : Edge) → Member e es → (0 < e.earlier) × (e.earlier < t) × (e.later ≡ t)) → PairedList (IsShownIn p T by) es (shown_rows p by names rs wss)
       rows_shown [] [] wss q no_more b = no_more
-      rows_shown [] (e ∷ es) wss q w b = absurd (cc)
-      rows_shown (r ∷ rs) [] wss q w b = absurd (cc)
       rows_shown (r ∷ rs) (e ∷ es) [] q w b = elim w [ ]
       rows_shown (r ∷ rs) (e ∷ es) (ws ∷ wss) q (one_more a more) b =
           let head : shown_by p by names t r ≡ with_places T t e = (cc) in
@@ -139,6 +126,7 @@ module _ (p : Program) (T : Touches) (by : ℕ → ℕ × ℕ) where
           let shown = places_shown (T t) r.spots ws a (row_walks e r ends places) in
           let there : PairedList (IsPlaceIn p by (T t)) (take 8 (conflict_places_in T e.kind e.earlier t)) (places_by p by names r.spots ws) = subst (λ (ls : List Location). PairedList (IsPlaceIn p by (T t)) ls (places_by p by names r.spots ws)) places shown in
           one_more (subst (λ (n : ℕ). PairedList (IsPlaceIn p by (T n)) (take 8 (conflict_places_in T e.kind e.earlier n)) (places_by p by names r.spots ws)) (sym ends.2) there) (rows_shown rs es wss rest more (λ d m. b d (inr m)))
+      rows_shown _ _ wss q w b = absurd (cc)
 
       pub test_shown : (rs : List Row) (wss : List (List (List LocationKey))) → map (shown_by p by names t) rs ≡ map (with_places T t) (edges_at p T by t) → HaveRowsWalks (T t) rs wss → PairedList (IsShownIn p T by) (edges_at p T by t) (shown_rows p by names rs wss)
       test_shown rs wss q w = rows_shown rs (edges_at p T by t) wss q w (at_ends t)

@@ -19,14 +19,12 @@ any_filter l m (n ∷ ls) = elim (cases_Bool (same l n)) [
 ]
   where
     same_here : (a b c : Bool) → (b ≡ true → a ≡ true) → (not a && c) ≡ (not a && (b || c))
-    same_here true b c f = refl
     same_here false true c f = let g = f refl in absurd (cc)
-    same_here false false c f = refl
+    same_here _ _ c f = refl
 
     other_here : (a b c : Bool) → (a ≡ true → b ≡ false) → (b || (not a && c)) ≡ (not a && (b || c))
     other_here true true c f = let g = f refl in absurd (cc)
-    other_here true false c f = refl
-    other_here false b c f = refl
+    other_here _ _ c f = refl
 
 pub any_first : (ls : List Location) (m : Location) → list_any (same m) (first_places ls) ≡ list_any (same m) ls
 any_first [] m = refl

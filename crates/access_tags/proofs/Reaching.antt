@@ -51,13 +51,7 @@ class_is (Some d) c e = ap (λ (i : ℕ). Some i) (eqb-true d c e)
 
 head_is : (k : ℕ → Kind) (c : ℕ) (L : Location) → is_head_of k c L ≡ true → (o : ℕ) × (L ≡ place.Head o) × (inner_class (k o) ≡ Some c)
 head_is k c (place.Head o) e = (o, refl, class_is (inner_class (k o)) c e)
-head_is k c (place.Static f) e = absurd (cc)
-head_is k c (place.Init d) e = absurd (cc)
-head_is k c (place.Field o f) e = absurd (cc)
-head_is k c (place.Elem o i) e = absurd (cc)
-head_is k c (place.Text o) e = absurd (cc)
-head_is k c (place.File n) e = absurd (cc)
-head_is k c (place.Prop n) e = absurd (cc)
+head_is k c _ e = absurd (cc)
 
 abbrev locations : List Touch → List Location
 locations ts = map (λ (x : Touch). x.location) ts

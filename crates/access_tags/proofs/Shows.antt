@@ -22,9 +22,8 @@ paired_more R xs i d ys y h q r = subst (λ zs. PairedList R zs (ys ++ y ∷ [])
 -- the texts of a walk, where there is one
 texts_there : (p : Program) (xs : List LocationKey) (ys : List Touch) → map (located []) xs ≡ map location_of ys → map (λ (x : LocationKey). read_text p (located [] x)) xs ≡ map (λ (y : Touch). read_text p y.location) ys
 texts_there p [] [] e = refl
-texts_there p [] (y ∷ ys) e = absurd (cc)
-texts_there p (x ∷ xs) [] e = absurd (cc)
 texts_there p (x ∷ xs) (y ∷ ys) e = let h : located [] x ≡ y.location = (cc) in let t : map (located []) xs ≡ map location_of ys = (cc) in rw h (ap (λ zs. read_text p y.location ∷ zs) (texts_there p xs ys t))
+texts_there p _ _ e = absurd (cc)
 
 pub walk_shown : (p : Program) (ts : List Touch) (o : Option ℕ) (xs : List LocationKey) → IsWalkTo ts o xs → ((a : ℕ) → o ≡ Some a → (ys : List Touch) × Walk ts a ys) → IsWalkText p ts o (map (λ (x : LocationKey). read_text p (located [] x)) xs)
 walk_shown p ts None xs w f = rw w refl

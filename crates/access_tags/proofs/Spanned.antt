@@ -58,10 +58,9 @@ pub parts_all : (ss : List Interval) (i : ℕ) → i ≡ length ss → parts (ta
 parts_all ss i e = ap parts (ap (λ (j : ℕ). take j ss) e ∙ take-length ss)
 
 pub parts_longer : (ss : List Interval) (i : ℕ) (d s : Interval) (x : Touched) → i + 1 ≡ length ss → parts_of s ≡ parts_of (get_or ss i d) ++ x ∷ [] → parts (set ss i s) ≡ parts ss ++ x ∷ []
-parts_longer [] i d s x h e = absurd (omega arith)
 parts_longer (y ∷ []) zero d s x h e = append-nil (parts_of s) ∙ (e ∙ ap (λ (ys : List Touched). ys ++ x ∷ []) (sym (append-nil (parts_of y))))
-parts_longer (y ∷ z ∷ ss) zero d s x h e = absurd (omega arith)
 parts_longer (y ∷ ss) (suc i) d s x h e = ap (λ (ys : List Touched). parts_of y ++ ys) (parts_longer ss i d s x (omega arith) e) ∙ sym (append_assoc (parts_of y) (parts ss) (x ∷ []))
+parts_longer _ _ d s x h e = absurd (omega arith)
 
 less_than : (i n m : ℕ) → i < n → m ≡ n → i < m
 less_than i n m h e = omega arith

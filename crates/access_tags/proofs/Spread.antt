@@ -152,5 +152,4 @@ numbers_law w (place.Head o) k h = part_number w o 0 (base_of w o) (place.Head o
 numbers_law w (place.Text o) k h = part_number w o 1 (base_of w o + 1) (place.Text o) h refl (λ f. refl) (λ c. refl) (text_at o (object_at w o)) refl
 numbers_law w (place.Field o f) k h = part_number w o (2 + place_in f (keys (object_at w o).fields)) (number_in w (place.Field o f)) (place.Field o f) h.0 refl (λ f. refl) (λ c. refl) (field_at o f (object_at w o) h.1) refl
 numbers_law w (place.Elem o i) k h = part_number w o (2 + (length (object_at w o).fields + i)) (number_in w (place.Elem o i)) (place.Elem o i) h.0 refl (λ f. refl) (λ c. refl) (elem_at o i (object_at w o) h.1) refl
-numbers_law w (place.File n) k h = absurd (cc)
-numbers_law w (place.Prop n) k h = absurd (cc)
+numbers_law w _ k h = absurd (cc)

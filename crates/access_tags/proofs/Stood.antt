@@ -21,9 +21,8 @@ untouched : (ts : List Touch) (L : Location) → list_any (same L) (places ts) �
 untouched ts L e = base (exposed ts L) (written ts L) (sym (any_touched ts L) ∙ (sym (any_first (map (λ (x : Touch). x.location) ts) L) ∙ e))
   where
     base : (a b : Bool) → (a || b) ≡ false → record { exposed = a; written = b } ≡ no_mark
-    base true b q = absurd (cc)
-    base false true q = absurd (cc)
     base false false q = refl
+    base _ _ q = absurd (cc)
 
 ended_untouched : (t : ℕ) (g : Tag) → g.mark ≡ no_mark → ended t g ≡ g
 ended_untouched t g e = let w : g.mark.written ≡ false = ap (λ (m : Mark). m.written) e in let x : g.mark.exposed ≡ false = ap (λ (m : Mark). m.exposed) e in rw w (rw x refl)
@@ -36,20 +35,17 @@ covered_tag : (write : Bool) (g : Tag) → covers write g.mark ≡ true → note
 covered_tag write g k = ap (λ (m : Mark). tag_with g.writer g.readers m) (base write g.mark.exposed g.mark.written k)
   where
     base : (b e w : Bool) → (w || (e && not b)) ≡ true → marked b (record { exposed = e; written = w }) ≡ record { exposed = e; written = w }
-    base true e true q = refl
     base true true false q = absurd (cc)
     base true false false q = absurd (cc)
-    base false true w q = refl
-    base false false true q = refl
     base false false false q = absurd (cc)
+    base _ _ _ q = refl
 
 pub covered_new : (write : Bool) (m : Mark) → covers write m ≡ true → is_new m ≡ false
 covered_new write m = base m.exposed m.written
   where
     base : (e w : Bool) → (w || (e && not write)) ≡ true → (not e && not w) ≡ false
-    base true w q = refl
-    base false true q = refl
     base false false q = absurd (cc)
+    base _ _ q = refl
 
 pub covered_there : (write : Bool) (c : ℕ → Tag) (i l : ℕ) → covers write (c i).mark ≡ true → c l ≡ cond (nat_eq l i) (noted write (c i)) (c l)
 covered_there write c i l k = elim (cases_Bool (nat_eq l i)) [

@@ -41,8 +41,7 @@ found_more k u hs x =
 
 kind_below : (k : EdgeKind) → kind_number k < 3
 kind_below Raw = omega arith
-kind_below Waw = omega arith
-kind_below War = omega arith
+kind_below _ = omega arith
 
 pub key_within : (k : EdgeKind) (u t n : ℕ) → u < t → n ≡ 3 * t → 3 * u + kind_number k < n
 key_within k u t n h e = let b = kind_below k in omega arith
@@ -76,8 +75,7 @@ table_more t rows l f k u d h = elim (cases_lt u t) [
 
     last : (k : EdgeKind) (d : Row) → get_or (row_with Raw t [] ∷ row_with Waw t [] ∷ row_with War t [] ∷ []) (kind_number k) d ≡ row_with k t []
     last Raw d = refl
-    last Waw d = refl
-    last War d = refl
+    last _ d = refl
 
     at_end : (xs : List Row) (k : EdgeKind) (d : Row) → get_or (xs ++ row_with Raw t [] ∷ row_with Waw t [] ∷ row_with War t [] ∷ []) (length xs + kind_number k) d ≡ row_with k t []
     at_end [] k d = ap (λ (i : ℕ). get_or (row_with Raw t [] ∷ row_with Waw t [] ∷ row_with War t [] ∷ []) i d) (omega arith) ∙ last k d

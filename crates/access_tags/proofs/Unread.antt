@@ -60,6 +60,5 @@ pushed_unread (Ok z) c d xs ys x e f u w = subst (λ (zs : List Touched). AreUnr
 pushed_unread (Err z) c d xs ys x e f u w = subst (λ (zs : List Touched). AreUnread c d zs) (sym f) w
 
 pub reads_nothing : (a b : Bool) → (a || not b) ≡ false → (a ≡ false) × (b ≡ true)
-reads_nothing true b e = absurd (cc)
 reads_nothing false true e = (refl, refl)
-reads_nothing false false e = absurd (cc)
+reads_nothing _ _ e = absurd (cc)
