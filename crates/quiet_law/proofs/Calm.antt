@@ -54,14 +54,12 @@ IsCalm s = s.entries.top.kind ≡ Absent → s.raised ≡ None
 
 abbrev CalmTurn : Turn → Type 0
 CalmTurn (next s) = IsCalm s
-CalmTurn (ended v o) = Unit {0}
-CalmTurn stuck_turn = Unit {0}
+CalmTurn _ = Unit {0}
 
 -- the row enters a method
 abbrev Enters : Answer Entries → Type 0
 Enters (answer (Enter m) t) = Unit {0}
-Enters (answer x t) = ⊥
-Enters stuck_row = ⊥
+Enters _ = ⊥
 
 abbrev EntersNone : Answer Entries → Type 0
 EntersNone a = Enters a → ⊥
@@ -81,35 +79,27 @@ unfolding throws
 throws_calm p c s = λ o. raise_calm (Obj o) s
 
 native_calm : (p : Program) (s : State) → s.raised ≡ None → (a : Answer Working) → EndsIn CalmTurn (after_native p s a)
-native_calm p s n stuck_row = tt
 native_calm p s n (answer Go t) = λ q. n
 native_calm p s n (answer (Fault c) t) = throws_calm p c (record s { entries = t.entries; own = t.own })
-native_calm p s n (answer (Raise v) t) = tt
-native_calm p s n (answer (Enter m) t) = tt
-native_calm p s n (answer Leave t) = tt
-native_calm p s n (answer Over t) = tt
+native_calm p s n _ = tt
 
 entered_calm : (p : Program) (s : State) → s.raised ≡ None → (o : Option Native) (t : Entries) → EndsIn CalmTurn (entered p s o t)
 entered_calm p s n None t = λ q. refl
 entered_calm p s n (Some x) t = let u : Working = record { entries = t; own = s.own } in ends_bind CalmTurn Any (row_native p x u) (after_native p s) (ends_any (row_native p x u)) (λ a h. native_calm p s n a)
 
 after_calm : (p : Program) (s : State) (a : Answer Entries) → (Enters a → s.raised ≡ None) → EndsIn CalmTurn (after_row p s a)
-after_calm p s stuck_row h = tt
 after_calm p s (answer Go t) h = λ q. refl
 after_calm p s (answer (Fault c) t) h = throws_calm p c (with_entries s t)
 after_calm p s (answer (Raise v) t) h = raise_calm v (with_entries s t)
 after_calm p s (answer (Enter m) t) h = entered_calm p s (h tt) (method_at p m).native t
 after_calm p s (answer Leave t) h = λ q. refl
-after_calm p s (answer Over t) h = tt
+after_calm p s _ h = tt
 
 -- ---- a throwable is raised
 
 object_ends : (s : Entries) (v : Value) (k : ℕ → Access (Answer Entries)) → ((o : ℕ) → EndsIn EntersNone (k o)) → EndsIn EntersNone (on_object s v k)
-object_ends s (Int n) k f = λ x. x
-object_ends s (Long n) k f = λ x. x
-object_ends s Null k f = λ x. x
-object_ends s (Lit n) k f = λ x. x
 object_ends s (Obj o) k f = f o
+object_ends s _ k f = λ x. x
 
 handled_ends : (v : Value) (s : Entries) (o : Option ℕ) → EndsIn EntersNone (handled v s o)
 handled_ends v s None = λ x. x
@@ -169,18 +159,14 @@ module _ (p : Program) (s : State) (calm : s.raised ≡ None) where
       by false = tt
 
   message_calm : (out : List ℕ) (c : ℕ) (v : Value) → EndsIn CalmTurn (judged_message p out c v)
-  message_calm out c (Int n) = tt
-  message_calm out c (Long n) = tt
   message_calm out c Null = judged_calm out c None
   message_calm out c (Lit n) = judged_calm out c (Some (literal_at p n))
   message_calm out c (Obj o) = λ t. judged_calm out c (Some t)
+  message_calm out c _ = tt
 
   value_calm : (out : List ℕ) (v : Value) → EndsIn CalmTurn (judged_value p out v)
-  value_calm out (Int n) = tt
-  value_calm out (Long n) = tt
-  value_calm out Null = tt
-  value_calm out (Lit n) = tt
   value_calm out (Obj o) = λ h v. message_calm out _ v
+  value_calm out _ = tt
 
   judge_calm : (o : Option Value) → EndsIn CalmTurn (judge p o s)
   unfolding judge

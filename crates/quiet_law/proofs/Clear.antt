@@ -22,12 +22,7 @@ clear p w = record {
 is_clear : (p : Program) (w : World) (L : Location) → MayTouch (clear p w) L → IsClear p w L
 is_clear p w (place.Static f) h = λ i. elim h [ inl a ↦ a i | inr a ↦ a i ]
 is_clear p w (place.Init c) h = h
-is_clear p w (place.Head o) h = tt
-is_clear p w (place.Field o f) h = tt
-is_clear p w (place.Elem o i) h = tt
-is_clear p w (place.Text o) h = tt
-is_clear p w (place.File n) h = tt
-is_clear p w (place.Prop n) h = tt
+is_clear p w _ h = tt
 
 -- the location of the first touch, or of a later one
 exposed_at : (b s r : Bool) → cond b (not s && r) (s || r) ≡ true → (s ≡ true) ⊎ (r ≡ true)
@@ -38,12 +33,12 @@ at_first : (P : Location → Type 0) (x : Touch) (L : Location) → P x.location
 at_first P x L h q = subst P (sym (same_true L x.location q)) h
 
 among_touches : (P : Location → Type 0) (ts : List Touch) (L : Location) → All (λ (t : Touch). P t.location) ts → (written ts L ≡ true) ⊎ (exposed ts L ≡ true) → P L
-among_touches P [] L a (inl e) = absurd (cc)
-among_touches P [] L a (inr e) = absurd (cc)
 among_touches P (x ∷ ts) L a h = elim h [
   | inl e ↦ elim (one_of x.write (same L x.location) (written ts L) e) [ inl q ↦ at_first P x L (a 0 x (omega arith)) q | inr q ↦ among_touches P ts L (λ k d l. a (suc k) d (omega arith)) (inl q) ]
   | inr e ↦ elim (exposed_at x.write (same L x.location) (exposed ts L) e) [ inl q ↦ at_first P x L (a 0 x (omega arith)) q | inr q ↦ among_touches P ts L (λ k d l. a (suc k) d (omega arith)) (inr q) ]
 ]
+among_touches P [] L a (inl e) = absurd (cc)
+among_touches P [] L a (inr e) = absurd (cc)
 
 -- The second run comes out as the first did, over worlds that are beside one another, and costs no more.
 pub record Locked (p : Program) {A B : Type 0} (Q : A → B → Type 0) (r : Ran A) (q : Ran B) : Type 0 where

@@ -51,8 +51,7 @@ module _ (p : Program) (lk : Linked p) (s t : State) (w v : World) (o : States (
       (bind (begin (quiet p) (test_at (quiet p) t.test).class t.entries) (once_driven (quiet p) t (makes (quiet p) (test_at (quiet p) t.test).class t))))
   first_out true true e h = driven_out _ _ ((matched p lk).methods _ _ o.test.method).class (drives-paired (twins p lk) _ _ o.test.method no_more (both_last both_none) o) (drives-paced p lk 4 0 _ [] (Last None) s (omega arith)) h
   first_out false false e h = driven_out _ _ o.test.class (makes-paired (twins p lk) _ _ o.test.class o) (makes-paced p lk 4 0 _ s (omega arith)) h
-  first_out true false e h = absurd (cc)
-  first_out false true e h = absurd (cc)
+  first_out _ _ e h = absurd (cc)
 
   stage_out : {x y : Stage} → PairedStage same_numbers (λ a b. a ≡ b) x y → (StageAllowed p (clear p w) x s → PacedStep (clear p w) 4 0 (drive_at p x s)) → TurnsCome (drive_at p x s) (drive_at (quiet p) y t)
   unfolding drive_first

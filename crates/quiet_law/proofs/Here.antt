@@ -45,8 +45,7 @@ module _ (p : Program) (lk : Linked p) (s t : State) (w v : World) (o : States (
         RowsOut (cond b (faults instantiation_error s.entries) (using p c s.entries (new_object p c s.entries))) (cond b' (faults instantiation_error t.entries) (using (quiet p) d t.entries (new_object (quiet p) d t.entries)))
     new_out c d e true true g h = rows_out p lk s t w v o bs (faults-paired (twins p lk) (mt.builtin instantiation_error (omega arith)) f.entries) (cut p lk _ (paced_done (none, light p lk instantiation_error (omega arith))))
     new_out c d e false false g h = use_out p lk s t w v o bs c d e (new_object-paired (twins p lk) c d e f) (λ n. new-paced p lk c s.entries none) h
-    new_out c d e true false g h = absurd (cc)
-    new_out c d e false true g h = absurd (cc)
+    new_out c d e _ _ g h = absurd (cc)
 
     row_out : {i j : Instr} → PairedInstr same_numbers i j → (NamesAllowed p (clear p w) i → IsPaced (row p i s.entries)) → RowsOut (row p i s.entries) (row (quiet p) j t.entries)
     unfolding row row_statics row_create row_calls

@@ -75,15 +75,13 @@ module _ (p : Program) (s : Entries) (v : World) (k : Answer Entries → Access 
   starts_cheaper (Some x) = body_cheaper (method_at p x).body x
 
   looked_cheaper : (c : ℕ) (st : InitState) → IsCheaper (run (bind (looked_at c n s none_here st) k) v) (run (bind (looked_at c m s none_here st) k) v)
-  looked_cheaper c Running = record { value = refl; world = refl; units = omega arith; sound = λ e. e }
-  looked_cheaper c Done = record { value = refl; world = refl; units = omega arith; sound = λ e. e }
-  looked_cheaper c Erroneous = record { value = refl; world = refl; units = omega arith; sound = λ e. e }
   looked_cheaper c Idle = by (is_full s)
     where
       by : (f : Bool) → IsCheaper (run (bind (cond f (spend n (faults stack_overflow_error s)) (spend n (write (place.Init c) Running (done (answer Go (with_entry (class_entry c) s)))))) k) v)
           (run (bind (cond f (spend m (faults stack_overflow_error s)) (spend m (write (place.Init c) Running (done (answer Go (with_entry (class_entry c) s)))))) k) v)
       by true = record { value = refl; world = refl; units = omega arith; sound = λ e. e }
       by false = record { value = refl; world = refl; units = omega arith; sound = λ e. e }
+  looked_cheaper c _ = record { value = refl; world = refl; units = omega arith; sound = λ e. e }
 
 -- ---- what is touched
 
@@ -98,9 +96,8 @@ module _ (p : Program) (lk : Linked p) (w : World) (n : ℕ) (s : Entries) where
 
   looked_paced : (c : ℕ) → (IsHushed p c → ⊥) → (st : InitState) → PacedRow p (clear p w) 4 0 (looked_at c n s none_here st)
   looked_paced c m Idle = either (is_full s) (paced_spend (paced_done (omega arith, light p lk stack_overflow_error (omega arith)))) (paced_spend (paced_write m (paced_done (omega arith, tt))))
-  looked_paced c m Running = paced_done none
-  looked_paced c m Done = paced_done none
   looked_paced c m Erroneous = paced_spend (paced_done (omega arith, light p lk no_class_error (omega arith)))
+  looked_paced c m _ = paced_done none
 
 -- ---- the parts of a class
 
@@ -190,10 +187,9 @@ module _ (p : Program) (sd : Sound p) (s t : State) (w v : World) (o : States (t
       over st e g f = let z = found st e in out_left p s w (read_of (place.Init x.class) st) _ z (out_right p s w (touched_rest (read_of (place.Init x.class) st) (found_too st (g ∙ e))) (f (sym (ap (λ (y : Ran Turn). y.sound) z) ∙ ok)))
 
       by : (st : InitState) → at w (place.Init x.class) ≡ st → at v (place.Init x.class) ≡ at w (place.Init x.class) → Out p s w (run (bind (looks p (x ∷ xs) n s.entries) (after_row p s)) w) (run (bind (looks (quiet p) (x ∷ ys) m t.entries) (after_row (quiet p) t)) v)
-      by Idle e g = over Idle e g (stops Idle)
-      by Erroneous e g = over Erroneous e g (stops Erroneous)
       by Running e g = over Running e g more
       by Done e g = over Done e g more
+      by st e g = over st e g (stops st)
 
   looks_out : (xs : List Part) → Stated p xs → (n m : ℕ) → m ≤ n → Both (looks p xs n s.entries) (looks (quiet p) (heard p xs) m t.entries)
   looks_out [] l n m le = at_end n m le

@@ -38,8 +38,7 @@ over_room p s w n f g =
 
     by : (k : EntryKind) → s.entries.top.kind ≡ k → thrown_after (size w) (next (raised_in k (Obj (size w)) (with_entries s s.entries))) made ≡ Some stack_overflow_error
     by Absent e = absurd (n e)
-    by InMethod e = thrown
-    by (InClass b) e = thrown
+    by _ e = thrown
 
 -- the step of the driver, or of a row, with its 1
 spent_alike : (p : Program) {r x : Ran Turn} → Locked p (Met p) r x → Locked p (Met p) (record r { units = 1 + r.units }) (record x { units = 1 + x.units })

@@ -47,8 +47,7 @@ location_is (heads e) = ap (λ n. place.Head n) e
 location_is (at_field {a} {b} {f} {g} e h) = ap (λ n. place.Field n f) e ∙ ap (λ n. place.Field b n) (eqb-true f g h)
 location_is (at_elem i e) = ap (λ n. place.Elem n i) e
 location_is (texts e) = ap (λ n. place.Text n) e
-location_is (files n) = refl
-location_is (props n) = refl
+location_is _ = refl
 
 module _ (p : Program) {A B : Type 0} {Q : A → B → Type 0} {a : Access A} {b : Access B} (same : Paired itself Q a b) (w v : World) (bs : Beside p Equal w v) (ok : (run a w).sound ≡ true)
     (clear : (L : Location) → (written (run a w).touches L ≡ true) ⊎ (exposed (run a w).touches L ≡ true) → IsClear p w L) where
@@ -76,12 +75,7 @@ module _ (p : Program) {A B : Type 0} {Q : A → B → Type 0} {a : Access A} {b
   clear_before : (L : Location) → IsClear p (run a w).world L → IsClear p w L
   clear_before (place.Static f) c = λ i. c (i.0, state_stays (field_at p f).class i.0 ∙ i.1)
   clear_before (place.Init d) c = c
-  clear_before (place.Head o) c = tt
-  clear_before (place.Field o f) c = tt
-  clear_before (place.Elem o i) c = tt
-  clear_before (place.Text o) c = tt
-  clear_before (place.File n) c = tt
-  clear_before (place.Prop n) c = tt
+  clear_before _ c = tt
 
   pub beside_after : Beside p Equal (run a w).world (run b v).world
   beside_after = record {
@@ -105,13 +99,10 @@ self_value (value.Obj o) = objects refl
 
 self_content : (L : Location) (c : Content L) → Equal L c c
 self_content (place.Static f) c = self_value c
-self_content (place.Init d) c = refl
 self_content (place.Head o) c = record { kind = self_kind c.kind; length = refl }
 self_content (place.Field o f) c = self_value c
 self_content (place.Elem o i) c = self_value c
-self_content (place.Text o) c = refl
-self_content (place.File n) c = refl
-self_content (place.Prop n) c = refl
+self_content _ c = refl
 
 module _ (p : Program) (sd : Sound p) where
   pub beside_at_start : Beside p Equal (opening p) (opening (quiet p))

@@ -21,8 +21,7 @@ use Rattle.quiet_law.proofs.Use.{Met, Begins, Comes, alike, goes}
 -- an end with a verdict
 abbrev pub IsFinished : End → Type 0
 IsFinished (finished v o) = Unit {0}
-IsFinished stuck = ⊥
-IsFinished out_of_steps = ⊥
+IsFinished _ = ⊥
 
 -- a run of no more steps than lead to some state doesn't get to an end
 module _ (p : Program) where
@@ -37,8 +36,7 @@ is_whole p w s td = by s.entries.top.kind refl
   where
     by : (k : EntryKind) → s.entries.top.kind ≡ k → entries_of (elim k [ Absent ↦ s.entries.below | InMethod ↦ s.entries.top ∷ s.entries.below | InClass b ↦ s.entries.top ∷ s.entries.below ]) ≡ s.entries
     by Absent e = let a = td.alone e in ap (λ (z : Entries). entries_of z.below) a ∙ sym a
-    by InMethod e = refl
-    by (InClass b) e = refl
+    by _ e = refl
 
 -- nothing is raised on one side
 resting-paired : (p : Program) (sd : Sound p) (s t : State) → s.raised ≡ None → States (twins p sd.linked) s t → States (twins p sd.linked) (resting s) t
@@ -134,6 +132,5 @@ module _ (p : Program) (ty : IsTyped p) (sd : Sound p) (test : ℕ) (low : 0 < t
 
   pub whole_out : (b : ℕ) → Shorter b
   whole_out b zero k hb hk s t w v o bs r ok f = absurd f
-  whole_out zero (suc n) k hb hk s t w v o bs r ok f = absurd (omega arith)
-  whole_out (suc b) (suc n) zero hb hk s t w v o bs r ok f = absurd (omega arith)
   whole_out (suc b) (suc n) (suc k) hb hk s t w v o bs r ok f = one_out n k (omega arith) (λ i j hi hj. whole_out b i j (omega arith) hj) s t w v o bs r ok f
+  whole_out _ (suc n) _ hb hk s t w v o bs r ok f = absurd (omega arith)
