@@ -102,18 +102,12 @@ target_made program world follows m i to s u t left h e = (refl, (rw (e) (target
 pub settled_meets : (p : Program) (w : World) (i : Instr) (x : Next) (n : ℕ) (s u : Entries) (left : ℕ) → Ends i x s u → next_place p s.top.number s.top.pc ≡ n → Refines (form_row i) p w s (left + 1) (next_of (settled_flow x)) (settled x n u) w (settled_units x left)
 settled_meets p w i Go n s u left h e = straight_meets p w i n s u left h e
 settled_meets p w i (Fault c) n s u left h e = thrown i n (left + 1) (Fault c) s u h (λ k. absurd (cc)) p w e
-settled_meets p w i (Raise v) n s u left h e = absurd h
-settled_meets p w i (Enter m) n s u left h e = absurd h
-settled_meets p w i Leave n s u left h e = absurd h
-settled_meets p w i Over n s u left h e = absurd h
+settled_meets p w i _ n s u left h e = absurd h
 
 pub settled_left : (i : Instr) (x : Next) (n : ℕ) (s u : Entries) → Ends i x s u → s.top.kind ≡ InMethod → IsLeft (settled_flow x) s.top.number n (settled x n u)
 settled_left i Go n s u h k = (record { frame = h.frame.kind ∙ k; number = h.frame.number }, refl)
 settled_left i (Fault c) n s u h k = tt
-settled_left i (Raise v) n s u h k = absurd h
-settled_left i (Enter m) n s u h k = absurd h
-settled_left i Leave n s u h k = absurd h
-settled_left i Over n s u h k = absurd h
+settled_left i _ n s u h k = absurd h
 
 pub quiet_tells : {M : Type 0} (follows : M → Trace → List Touch → Type 0) (m : M) (p : Program) (w : World) (i : Instr) (x : Next) (s : Entries) → TouchesNothing i → Traces (form_row i) p w s x follows m m
 quiet_tells follows m p w i x s t o h ts k = subst (λ (us : List Touch). follows m h us) (sym (untouched p i s t w ts)) k

@@ -54,36 +54,25 @@ module _ (p : Program) where
 
   ints : (v : Value) (k : ℤ → Access (Answer Entries)) → ((n : ℤ) → IsFramed (k n)) → IsFramed (on_int v k)
   ints (Int n) k f = f n
-  ints (Long n) k f = tt
-  ints Null k f = tt
-  ints (Lit n) k f = tt
-  ints (Obj o) k f = tt
+  ints _ k f = tt
 
   objects : (s : Entries) (v : Value) (k : ℕ → Access (Answer Entries)) → ((o : ℕ) → IsFramed (k o)) → IsFramed (on_object s v k)
-  objects s (Int n) k f = tt
-  objects s (Long n) k f = tt
-  objects s Null k f = tt
-  objects s (Lit n) k f = tt
   objects s (Obj o) k f = f o
+  objects s _ k f = tt
 
   references : (s : Entries) (v : Value) (k : Access (Answer Entries)) → IsFramed k → IsFramed (on_reference s v k)
-  references s (Int n) k f = tt
-  references s (Long n) k f = tt
-  references s Null k f = tt
   references s (Lit n) k f = f
   references s (Obj o) k f = f
+  references s _ k f = tt
 
   kinds : (v : Value) (k : Kind → Access (Answer Entries)) → ((x : Kind) → IsFramed (k x)) → IsFramed (with_kind v k)
-  kinds (Int n) k f = tt
-  kinds (Long n) k f = tt
-  kinds Null k f = tt
   kinds (Lit n) k f = f _
   kinds (Obj o) k f = λ h. f h.kind
+  kinds _ k f = tt
 
   once_so : (s : Entries) (k : Access (Answer Entries)) → IsFramed k → (u : Used) → IsFramed (once s k u)
   once_so s k f ready = f
-  once_so s k f (begun t) = tt
-  once_so s k f (refused c) = tt
+  once_so s k f _ = tt
 
   uses : (c : ℕ) (s : Entries) (k : Access (Answer Entries)) → IsFramed k → IsFramed (using p c s k)
   uses c s k f = each_bind (Framed p) (begin p c s) (once s k) (λ u. once_so s k f u)
@@ -131,11 +120,10 @@ module _ (p : Program) where
   range_so s (negsuc j) n k f = tt
 
   checked_so : (k : Kind) (s : Entries) (v : Value) (t : Access (Answer Entries)) → IsFramed t → IsFramed (checked p k s v t)
-  checked_so k s (Int n) t f = tt
-  checked_so k s (Long n) t f = tt
   checked_so k s Null t f = f
   checked_so k s (Lit n) t f = either (kind_fits p _ _) _ _ f tt
   checked_so k s (Obj o) t f = λ h. either (kind_fits p h.kind _) _ _ f tt
+  checked_so k s _ t f = tt
 
   arrays_so : (i : Instr) (s : Entries) → IsFramed (row_arrays p i s)
   unfolding row_arrays
@@ -145,18 +133,13 @@ module _ (p : Program) where
   arrays_so _ s = tt
 
   cast_so : (k : Kind) (s : Entries) (v : Value) (vs : List Value) → IsFramed (cast p k s v vs)
-  cast_so k s (Int n) vs = tt
-  cast_so k s (Long n) vs = tt
-  cast_so k s Null vs = tt
   cast_so k s (Lit n) vs = either (kind_fits p _ k) _ _ tt tt
   cast_so k s (Obj o) vs = λ h. either (kind_fits p h.kind k) _ _ tt tt
+  cast_so k s _ vs = tt
 
   tested_so : (k : Kind) (s : Entries) (v : Value) (vs : List Value) → IsFramed (tested p k s v vs)
-  tested_so k s (Int n) vs = tt
-  tested_so k s (Long n) vs = tt
-  tested_so k s Null vs = tt
-  tested_so k s (Lit n) vs = tt
   tested_so k s (Obj o) vs = λ h. tt
+  tested_so k s _ vs = tt
 
   casts_so : (i : Instr) (s : Entries) → IsFramed (row_casts p i s)
   unfolding row_casts

@@ -23,7 +23,6 @@ has_room s n k h = subst (λ (x : EntryKind). length s.top.stack + n ≤ operand
 
 native_grows : (x : Native) → growth x ≤ native_puts x
 native_grows native.SystemClock = omega arith
-native_grows native.EnvRandom = omega arith
 native_grows _ = omega arith
 
 module _ (p : Program) (ty : IsTyped p) (limits : HasStackLimits p) (steps : StepLaw) (alone : AloneLaw) (room : RoomLaw) (back : ReturnLaw) (entered : NativeLaw) where

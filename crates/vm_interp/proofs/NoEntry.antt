@@ -34,19 +34,13 @@ handled_so v s (Some n) = refl
 
 pub raise_enters_none : (p : Program) (v : Value) (s : Entries) → NoEntry (row_raise p v s)
 unfolding row_raise
-raise_enters_none p (Int n) s = refl
-raise_enters_none p (Long n) s = refl
-raise_enters_none p Null s = refl
-raise_enters_none p (Lit n) s = refl
 raise_enters_none p (Obj o) s = λ h. handled_so (Obj o) s (handler_for p s.top.number s.top.pc (class_of h.kind))
+raise_enters_none p _ s = refl
 
 pub fail_enters_none : (p : Program) (v : Value) (s : Entries) → NoEntry (row_fail p v s)
 unfolding row_fail
-fail_enters_none p (Int n) s = refl
-fail_enters_none p (Long n) s = refl
-fail_enters_none p Null s = refl
-fail_enters_none p (Lit n) s = refl
 fail_enters_none p (Obj o) s = λ h. either (was_entered s.top.kind && not (is_below p (class_of h.kind) error_class)) (fails_anew p s) (fails (Obj o) s) (λ o. refl) refl
+fail_enters_none p _ s = refl
 
 body_so : (b : Option Body) (m n : ℕ) (s : Entries) → NoEntry (starts_body b m n s)
 body_so None m n s = refl
@@ -58,9 +52,8 @@ starts_so p (Some m) n s = body_so (method_at p m).body m n s
 
 looked_so : (c n : ℕ) (s : Entries) (rest : Access (Answer Entries)) (st : InitState) → NoEntry rest → NoEntry (looked_at c n s rest st)
 looked_so c n s rest Idle h = either (is_full s) _ _ refl refl
-looked_so c n s rest Running h = h
-looked_so c n s rest Done h = h
 looked_so c n s rest Erroneous h = refl
+looked_so c n s rest _ h = h
 
 looks_so : (p : Program) (xs : List Part) (n : ℕ) (s : Entries) → NoEntry (looks p xs n s)
 looks_so p [] n s = starts_so p (class_at p s.top.number).initialiser n s
@@ -68,14 +61,12 @@ looks_so p (x ∷ xs) n s = λ st. looked_so x.class (n + x.price) s (looks p xs
 
 left_so : (k : EntryKind) (t : Entries) → enters (answer (left_at k) t) ≡ false
 left_so Absent t = refl
-left_so InMethod t = refl
-left_so (InClass b) t = refl
+left_so _ t = refl
 
 finishing_so : (k : EntryKind) (p : Program) (s : Entries) → NoEntry (finishing k p s)
-finishing_so Absent p s = refl
-finishing_so InMethod p s = refl
 finishing_so (InClass false) p s = looks_so p (parts_of p s.top.number) 0 s
 finishing_so (InClass true) p s = left_so (popped_entry s).top.kind (popped_entry s)
+finishing_so _ p s = refl
 
 pub finish_enters_none : (p : Program) (s : Entries) → NoEntry (row_finish p s)
 unfolding row_finish
@@ -91,12 +82,8 @@ module _ (r : Row Entries) (p : Program) (w : World) (s : Entries) (left : ℕ) 
       ∙ (ended_so (run (paid (counts_one p x) (r p s)) w) left (answer x t) w' left' (sym (counted_is (paid (counts_one p x) (r p s)) w left) ∙ e ∙ answered x t w' left' h)).value
 
   room_by : (y : Next) → x ≡ y → ((m : ℕ) → (run (r p s) w).value ≡ answer (Enter m) t → HasRoomAfter (Enter m) p t) → HasRoomAfter y p t
-  room_by Go d f = tt
-  room_by (Fault c) d f = tt
-  room_by (Raise v) d f = tt
   room_by (Enter m) d f = f m (row_value ∙ ap (λ (z : Next). answer z t) d)
-  room_by Leave d f = tt
-  room_by Over d f = tt
+  room_by _ d f = tt
 
   -- there is room for a built-in method that the row enters
   pub room_then : HasNativeSpace r p w s → HasRoomAfter x p t

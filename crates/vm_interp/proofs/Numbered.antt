@@ -98,8 +98,7 @@ in_code p b m s e h = record { frame = h.frame; own = subst (λ (n : ℕ). (meth
 pub left_in : (p : Program) (b : Body) (m n : ℕ) (s : Entries) (x : Flow) → (method_at p m).body ≡ Some b → IsLeft x m n s → StaysAt p b x n s
 left_in p b m n s FallThrough e h = (in_code p b m s e h.0, h.1)
 left_in p b m n s Jump e h = in_code p b m s e h
-left_in p b m n s (Call k) e h = tt
-left_in p b m n s (Other y) e h = tt
+left_in p b m n s _ e h = tt
 
 -- the instruction of a number stands at its place
 pub form_here : (p : Program) (m i : ℕ) (b : Body) (x : Placed) → IsBody b → (method_at p m).body ≡ Some b → Some x ≡ slice_get b.code i → form_at p m x.pc ≡ Some x.form

@@ -48,18 +48,12 @@ placed_again s u n e f = e ∙ ap (λ (m : ℕ). with_place s m) (sym f)
 after_row_ends : (p : Program) (s : State) (x : Next) → EndsWithRow p x → after x p s ≡ done (next (with_entries s s.entries))
 after_row_ends p s Go h = refl
 after_row_ends p s (Enter m) h = ap (λ (o : Option Native). paid (not (not (is_some o))) (entered p s o s.entries)) h
-after_row_ends p s (Fault c) h = absurd h
-after_row_ends p s (Raise v) h = absurd h
-after_row_ends p s Leave h = absurd h
-after_row_ends p s Spent h = absurd h
+after_row_ends p s _ h = absurd h
 
 not_spent : (p : Program) (x : Next) → EndsWithRow p x → x ≢ Spent
 not_spent p Go h = λ e. cc
 not_spent p (Enter m) h = λ e. cc
-not_spent p (Fault c) h = absurd h
-not_spent p (Raise v) h = absurd h
-not_spent p Leave h = absurd h
-not_spent p Spent h = absurd h
+not_spent p _ h = absurd h
 
 -- The step whose row answered this and left these, in this world then: it touches no more, and the test goes on over
 -- these entries.

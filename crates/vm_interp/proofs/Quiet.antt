@@ -18,24 +18,18 @@ use Rattle.vm_interp.proofs.NoEntry.{enters, NoEntry}
 -- it accesses nothing, and enters no method
 abbrev Quiet : Access (Answer Entries) → Type 0
 Quiet (done a) = enters a ≡ false
-Quiet (read l k) = ⊥
-Quiet (write l c t) = ⊥
-Quiet (make x k) = ⊥
 Quiet (spend n t) = Quiet t
+Quiet _ = ⊥
 
 quiet_touches : (t : Access (Answer Entries)) → Quiet t → (w : World) (ts : List Touch) → touched t w ts ≡ ts
 quiet_touches (done a) h w ts = refl
-quiet_touches (read l k) h w ts = absurd h
-quiet_touches (write l c t) h w ts = absurd h
-quiet_touches (make x k) h w ts = absurd h
 quiet_touches (spend n t) h w ts = quiet_touches t h w ts
+quiet_touches _ h w ts = absurd h
 
 quiet_enters : (t : Access (Answer Entries)) → Quiet t → NoEntry t
 quiet_enters (done a) h = h
-quiet_enters (read l k) h = absurd h
-quiet_enters (write l c t) h = absurd h
-quiet_enters (make x k) h = absurd h
 quiet_enters (spend n t) h = quiet_enters t h
+quiet_enters _ h = absurd h
 
 pops : (xs : List Value) (k : Value → List Value → Access (Answer Entries)) → ((v : Value) (vs : List Value) → Quiet (k v vs)) → Quiet (popping xs k)
 pops [] k f = refl
@@ -43,24 +37,16 @@ pops (v ∷ vs) k f = f v vs
 
 ints : (v : Value) (k : ℤ → Access (Answer Entries)) → ((n : ℤ) → Quiet (k n)) → Quiet (on_int v k)
 ints (Int n) k f = f n
-ints (Long n) k f = refl
-ints Null k f = refl
-ints (Lit n) k f = refl
-ints (Obj o) k f = refl
+ints _ k f = refl
 
 longs : (v : Value) (k : ℤ → Access (Answer Entries)) → ((n : ℤ) → Quiet (k n)) → Quiet (on_long v k)
-longs (Int n) k f = refl
 longs (Long n) k f = f n
-longs Null k f = refl
-longs (Lit n) k f = refl
-longs (Obj o) k f = refl
+longs _ k f = refl
 
 references : (s : Entries) (v : Value) (k : Access (Answer Entries)) → Quiet k → Quiet (on_reference s v k)
-references s (Int n) k f = refl
-references s (Long n) k f = refl
-references s Null k f = refl
 references s (Lit n) k f = f
 references s (Obj o) k f = f
+references s _ k f = refl
 
 either : (b : Bool) (t u : Access (Answer Entries)) → Quiet t → Quiet u → Quiet (cond b t u)
 either true t u f g = f
@@ -96,11 +82,8 @@ long_and_int : (p : Program) (x : Op) (s : Entries) → Quiet (long_by_int p x s
 long_and_int p x s = pops s.top.stack _ (λ v vs. pops vs _ (λ u rest. ints v _ (λ b. longs u _ (λ a. refl))))
 
 conversions : (p : Program) (x : Conv) (s : Entries) → Quiet (converted p x s)
-conversions p conv.I2l s = pops s.top.stack _ (λ v vs. ints v _ (λ a. refl))
 conversions p conv.L2i s = pops s.top.stack _ (λ v vs. longs v _ (λ a. refl))
-conversions p conv.I2b s = pops s.top.stack _ (λ v vs. ints v _ (λ a. refl))
-conversions p conv.I2c s = pops s.top.stack _ (λ v vs. ints v _ (λ a. refl))
-conversions p conv.I2s s = pops s.top.stack _ (λ v vs. ints v _ (λ a. refl))
+conversions p _ s = pops s.top.stack _ (λ v vs. ints v _ (λ a. refl))
 
 branchings : (b : Bool) (to : ℕ) (p : Program) (s : Entries) (vs : List Value) → Quiet (goes_if b to p s vs)
 branchings b to p s vs = either b _ _ (refl) (refl)
@@ -146,5 +129,4 @@ quiet_enters_none p i s t = quiet_enters (row p i s) (quiet p i s t)
 -- such a form asks for no more room than it puts
 pub grows : (i : Instr) → growth i ≤ puts i
 grows (form.GetStatic f) = omega arith
-grows (form.New c) = omega arith
 grows _ = omega arith

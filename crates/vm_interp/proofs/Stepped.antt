@@ -21,35 +21,22 @@ use Rattle.vm_interp.specs.declared.state.State.{State as Kept}
 use Rattle.vm_interp.specs.declared.step_outcome.{StepOutcome.StepOutcome, StepOutcome.TheVariants.OutOfBudget as Spent}
 
 pub answered : (x : Next) (s : Entries) (w : World) (left : ℕ) → x ≢ Over → outcome x s w left ≡ ended (answer x s) w left
-answered Go s w left h = refl
-answered (Fault c) s w left h = refl
-answered (Raise v) s w left h = refl
-answered (Enter m) s w left h = refl
-answered Leave s w left h = refl
 answered Over s w left h = absurd (h refl)
+answered _ s w left h = refl
 
 -- what comes after a row asks nothing of the entries before it
 module _ (p : Program) (s : State) (t : Entries) where
   native_after : (a : Answer Working) → after_native p s a ≡ after_native p (record s { entries = t }) a
   native_after stuck_row = refl
-  native_after (answer Go u) = refl
-  native_after (answer (Fault c) u) = refl
-  native_after (answer (Raise v) u) = refl
-  native_after (answer (Enter m) u) = refl
-  native_after (answer Leave u) = refl
-  native_after (answer Over u) = refl
+  native_after _ = refl
 
   entered_after : (o : Option Native) → entered p s o t ≡ entered p (record s { entries = t }) o t
   entered_after None = refl
   entered_after (Some x) = ap (λ k. bind (row_native p x (record { entries = t; own = s.own })) k) (fun_ext native_after)
 
   after_same : (x : Next) → after_row p s (answer x t) ≡ after_row p (record s { entries = t }) (answer x t)
-  after_same Go = refl
-  after_same (Fault c) = refl
-  after_same (Raise v) = refl
   after_same (Enter m) = entered_after (method_at p m).native
-  after_same Leave = refl
-  after_same Over = refl
+  after_same _ = refl
 
 paid_safe : (b : Bool) (t : Access Turn) (w : World) → IsSafe IsTurn t w → IsSafe IsTurn (paid b t) w
 paid_safe true t w h = h
