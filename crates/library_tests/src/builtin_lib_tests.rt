@@ -5,10 +5,9 @@ use et_base::{NoMemory, Units, is_ascii_text};
 use jvm_model::ClassDef;
 use std::alloc::Global;
 
-// The empty text is the name of none.
 fn is_named(name: &Option<Units>, text: &[u8]) -> bool {
     match name {
-        None => text.is_empty(),
+        None => false,
         Some(name) => is_ascii_text(name.as_slice(), text),
     }
 }
@@ -20,8 +19,15 @@ fn is_below(classes: &[ClassDef], name: &[u8], superclass: &[u8]) -> bool {
     })
 }
 
+// Whether the class of this name is among them and has no superclass.
+fn is_root(classes: &[ClassDef], name: &[u8]) -> bool {
+    classes.iter().any(|class| {
+        is_ascii_text(class.name.as_slice(), name) && class.superclass.is_none()
+    })
+}
+
 fn are_in_place(classes: &[ClassDef]) -> bool {
-    is_below(classes, b"java/lang/Object", b"")
+    is_root(classes, b"java/lang/Object")
         && is_below(classes, b"java/lang/Throwable", b"java/lang/Object")
         && is_below(
             classes,
