@@ -6,7 +6,7 @@ use Rattle.jvm_model.specs.declared.program.Program.{Program}
 use Rattle.jvm_model.specs.{State.test_at, World.size}
 use Rattle.jvm_model.specs.Suite.{Given, tree, opening, runs, all_tests}
 use Rattle.type_frames.specs.{Typing.IsTyped, TypedState.TypedWorld}
-use Rattle.check_sound.proofs.{AllGroups.groups, Grow.over_itself, Tree.Over, WholeStep.over_then, WholeTest.opening_typed, WholeTest.left_typed}
+use Rattle.check_sound.proofs.{AllGroups.groups, Grow.over_itself, Grow.over_then, Tree.Over, WholeTest.opening_typed, WholeTest.left_typed}
 use Rattle.order_law.specs.Histories.{touches_of}
 use Rattle.access_tags.specs.Ran.{size_in, size_after}
 use Rattle.detect_run.proofs.HeadsStay.{test_over}

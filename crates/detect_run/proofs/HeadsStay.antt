@@ -6,9 +6,9 @@ use Rattle.jvm_model.specs.State.{State, Turn, next, ended, stuck_turn, started}
 use Rattle.jvm_model.specs.Suite.{End, after_step, whole, tree}
 use Rattle.type_frames.specs.{Typing.IsTyped, TypedState.TypedWorld}
 use Rattle.type_frames.proofs.Started.{started_law}
-use Rattle.check_sound.proofs.{AllGroups.groups, TreeRuns.alike_itself, HeadsStay.tree_over, Ends.Local, Ends.TurnsTo}
+use Rattle.check_sound.proofs.{AllGroups.groups, TreeRuns.alike_itself, TreeRuns.bind_over, HeadsStay.tree_over, Ends.Local, Ends.TurnsTo}
 use Rattle.check_sound.proofs.Tree.{Tree, typed_done, Over}
-use Rattle.check_sound.proofs.WholeStep.{bind_over, step-typed, local_of}
+use Rattle.check_sound.proofs.WholeStep.{step-typed, local_of}
 
 module _ (p : Program) (ty : IsTyped p) where
   abbrev AnyEnd : World → End → Type 0
