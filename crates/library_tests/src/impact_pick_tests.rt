@@ -1,14 +1,13 @@
 ghost use Rattle.std.specs.Prelude.{◌≡◌};
 ghost use Rattle.impact_pick.specs.Form.{fits_prints};
 
+use crate::texts::names;
 use class_link::{TestLines, link};
 use dep_record::read_record;
 use et_base::{Items, NoMemory, Text};
 use impact_pick::impact_text;
-use jvm_model::Names;
 use order_law::{Prints, Record};
 use std::alloc::Global;
-use std::test::Fail;
 use type_checker::check;
 use type_frames::Checked;
 
@@ -37,27 +36,11 @@ const SECOND: [u8; 32] = [34; 32];
 
 const OTHER: [u8; 32] = [51; 32];
 
-fn names(alloc: Global) -> Result<Names, NoMemory> {
-    let mut tests = Items::new(alloc);
-    tests.push(Text::from_slice(alloc, b"A.a")?)?;
-    tests.push(Text::from_slice(alloc, b"B.b")?)?;
-    tests.push(Text::from_slice(alloc, b"C.c")?)?;
-    tests.push(Text::from_slice(alloc, b"D.d")?)?;
-    Ok(Names {
-        tests,
-        classes: Items::new(alloc),
-        fields: Items::new(alloc),
-    })
-}
-
 fn sums(alloc: Global, first: [u8; 32], second: [u8; 32]) -> Result<Prints, NoMemory> {
-    let mut classes = Items::new(alloc);
-    classes.push(first)?;
-    classes.push(second)?;
     Ok(Prints {
         digest: [0; 32],
         suite: [0; 32],
-        classes,
+        classes: Items::from_slice(alloc, &[first, second])?,
         eager: [0; 32],
     })
 }
@@ -83,36 +66,37 @@ fn fits(record: &Record, prints: &Prints) -> bool
 }
 
 // The text, where there are as many sums as the record has classes.
-fn text(alloc: Global, record: &Record, prints: &Prints) -> Result<Text, NoMemory> {
-    match bare(alloc) {
-        Some(program) if fits(record, prints) => {
-            impact_text(alloc, &names(alloc)?, record, &program, prints)
-        }
-        _ => Ok(Text::new(alloc)),
+fn text(alloc: Global, record: &Record, prints: &Prints) -> Option<Text> {
+    if !fits(record, prints) {
+        return None;
     }
+    let names = names(alloc, &[b"A.a", b"B.b", b"C.c", b"D.d"]).ok()?;
+    let program = bare(alloc)?;
+    impact_text(alloc, &names, record, &program, prints).ok()
 }
 
-fn text_by(alloc: Global, prints: &Prints) -> Result<Text, NoMemory> {
-    match read_record(alloc, EARLIER) {
-        Ok(record) => text(alloc, &record, prints),
-        Err(_) => Ok(Text::new(alloc)),
+// What is told of class files with these sums.
+fn told(alloc: Global, first: [u8; 32], second: [u8; 32]) -> Option<Text> {
+    let prints = sums(alloc, first, second).ok()?;
+    let record = read_record(alloc, EARLIER).ok()?;
+    text(alloc, &record, &prints)
+}
+
+fn is_told(told: Option<Text>, text: &[u8]) -> bool {
+    match told {
+        Some(told) => told.as_slice() == text,
+        None => false,
     }
 }
 
 #[test]
-fn a_changed_class_and_who_stands_behind(rt: HostRuntime) -> Result<(), Fail> {
-    let alloc = rt.alloc();
-    let prints = sums(alloc, FIRST, OTHER)?;
-    let expected: &[u8] = b"electric-impact 1\nchanged 2\nagain B.b\nagain C.c\nend\n";
-    assert!(rt; text_by(alloc, &prints)?.as_slice() == expected);
-    Ok(())
+fn a_changed_class_and_who_stands_behind(rt: HostRuntime) {
+    let expected = b"electric-impact 1\nchanged 2\nagain B.b\nagain C.c\nend\n";
+    assert!(rt; is_told(told(rt.alloc(), FIRST, OTHER), expected));
 }
 
 #[test]
-fn nothing_changed(rt: HostRuntime) -> Result<(), Fail> {
-    let alloc = rt.alloc();
-    let prints = sums(alloc, FIRST, SECOND)?;
-    let expected: &[u8] = b"electric-impact 1\nchanged -\nend\n";
-    assert!(rt; text_by(alloc, &prints)?.as_slice() == expected);
-    Ok(())
+fn nothing_changed(rt: HostRuntime) {
+    let expected = b"electric-impact 1\nchanged -\nend\n";
+    assert!(rt; is_told(told(rt.alloc(), FIRST, SECOND), expected));
 }

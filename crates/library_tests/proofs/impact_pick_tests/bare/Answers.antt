@@ -4,7 +4,7 @@ use Rattle.class_link.specs.{declared.lines.TestLine.TestLine, Link.is_test_name
 use Rattle.jvm_model.specs.Suite.{suite_limit}
 use Rattle.library_tests.proofs.impact_pick_tests.bare.Goals as goal
 
--- src/impact_pick_tests.rt:72:19
+-- src/impact_pick_tests.rt:55:19
 pub link-requires-clause-lines : goal.link-requires-clause-lines
 unfolding suite_limit
 link-requires-clause-lines c =
