@@ -5,7 +5,7 @@ use Rattle.order_law.proofs.OwnRecord.{in_range}
 use Rattle.jvm_model.specs.Suite.{all_tests}
 use Rattle.order_law.specs.{Conflicts.Member, Conflicts.selected, OwnRecord.edges_of, Plan.Ascending}
 use Rattle.suite_load.specs.declared.loaded.Loaded.{Loaded}
-use Rattle.electrictest.specs.{PoolRuns.IsChosen, PoolRuns.IsOfSuite, Records.Beginning}
+use Rattle.electrictest.specs.{Begun.IsOfSuite, PoolRuns.IsChosen, Records.Beginning}
 use Rattle.electrictest.proofs.PoolLaws.{own_of}
 
 -- an ascending list of exactly the numbers of a range

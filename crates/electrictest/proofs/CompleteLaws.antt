@@ -61,14 +61,11 @@ taken_at files a (of_generated {k = k} {n = n} asks) f r = generated_taken files
 -- where neither the depot nor the sink is answered
 completed_at : (asked : Asked) (s : Status) (old new : SinkView) → IsAccepted asked.files asked.ask → ((name : List ℕ) → FailedAt asked.depot asked.depot_now name → ⊥) → (PartReplied asked old new → ⊥) →
     Served asked s old new → IsCompleted asked s old new
-completed_at asked ends.Done old new accepted depot sink h = h
-completed_at asked ends.NotPassed old new accepted depot sink h = h
-completed_at asked (ends.Over f) old new accepted depot sink h = h
-completed_at asked ends.NoMemory old new accepted depot sink h = h
 completed_at asked ends.Words old new accepted depot sink h = in_form_at asked.files asked.ask accepted h.reply.answers.0
 completed_at asked (ends.Input f) old new accepted depot sink h = taken_at asked.files asked.ask accepted f h.reply.answers.0
 completed_at asked (ends.Depot name) old new accepted depot sink h = depot name h.reply.failed
 completed_at asked ends.Sink old new accepted depot sink h = sink h
+completed_at asked s old new accepted depot sink h = h
 
 pub complete_answer : (asked : Asked) (s : Status) (old new : SinkView) → Served asked s old new → Complete asked s old new
 complete_answer asked s old new h = λ accepted none. completed_at asked s old new accepted (λ name f. none.depot f.rose) (λ p. none.sink p.cut.rose) h

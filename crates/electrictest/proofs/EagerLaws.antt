@@ -1,6 +1,6 @@
 -- An eager form is over the suite without its quiet initialisers.
 use Rattle.std.proofs.Common.{◌≡◌, ℕ, List, Bool, true, Option, Some, Result, Ok, sym, refl, subst}
-use Rattle.outside.specs.Depot.{Files, Told, OfHeld}
+use Rattle.outside.specs.Depot.{Files}
 use Rattle.suite_load.specs.declared.loaded.Loaded.{Loaded}
 use Rattle.quiet_law.proofs.Suite.{quiet_law}
 use Rattle.electrictest.specs.{declared.status.Status.Status, EagerForms.AsksEager, EagerForms.EagerAnswer, Loads.LoadsFor, Loads.LoadsAny, Loads.quieted}
@@ -17,7 +17,3 @@ pub eager_answer : (files : Files) (a : Ask) → (is_eager a.words ≡ true → 
 eager_answer files a over l asks =
     let loaded = loaded_from files (word_at a.words 1) l asks.load in
     (loads_quieted files a l (over asks.eager) asks, quiet_law l.checked (loaded_typed files (word_at a.words 1) loaded.0 l asks.bytes loaded.1) asks.detected asks.room)
-
--- so it is of whichever files a depot may hold
-pub told_eager : (told : Told) (a : Ask) → (is_eager a.words ≡ true → IsOverSuite a.command) → OfHeld told (λ files. EagerAnswer files a)
-told_eager told a over = λ files may. eager_answer files a over

@@ -1,5 +1,5 @@
 -- With the record that `detect` wrote of the suite's earlier state, each test that an impact doesn't name has the lines that it had.
-use Rattle.std.proofs.Common.{◌≡◌, ℕ, zero, suc, ◌+◌, ◌<◌, ◌≤◌, List, [], ◌∷◌, length, map, slice_get, filter, Bool, true, false, cond, ◌==◌, refl, sym, ap, ◌∙◌, subst, inl, inr, arith, Option, Some, None, option_map, unwrap_or, IsSome, Result, Ok, Err}
+use Rattle.std.proofs.Common.{◌≡◌, ℕ, zero, suc, ◌+◌, ◌<◌, ◌≤◌, List, [], ◌∷◌, length, map, slice_get, filter, Bool, true, false, cond, ◌==◌, refl, sym, ap, ◌∙◌, subst, inl, inr, arith, Option, Some, None, option_map, unwrap_or, IsSome, Result, Ok}
 use Rattle.std.specs.{List.range_with_len, Str.bytes_eq}
 use Rattle.std.proofs.lemmas.{Bool.cases_eq, Bool.eq-eqb, Bool.false≢true, List.length-map, Slice.Eq.bytes_eq-Decides, List.FromFn.length-map-range_with_len}
 use Rattle.std.proofs.lemmas.Bool.{false_from_ne_true}
@@ -15,17 +15,16 @@ use Rattle.suite_load.proofs.{GoodLines.IsGood, LinkedCounts.tests_linked}
 use Rattle.impact_pick.specs.{Pick.changed, Pick.is_picked, Pick.picked, ImpactText.impact_text}
 use Rattle.impact_pick.proofs.ImpactLaw.{impact_law}
 use Rattle.electrictest.specs.declared.status.{Status.Status, InputFault.InputFault, OverFault.OverFault}
-use Rattle.electrictest.specs.declared.status.Status.TheVariants as ends
 use Rattle.electrictest.specs.declared.words.Command.TheVariants as command
 use Rattle.electrictest.specs.{Commands.Asked, Commands.Served, Commands.Whole, Impacts.IsImpacted}
 use Rattle.electrictest.specs.EarlierRecords.{AsksEarlier, WroteImpact, EarlierAnswer, KeptLines, lines_in}
 use Rattle.electrictest.specs.Loads.{LoadsFor, LoadsAny, begun_by, fits_for, named_by}
 use Rattle.electrictest.specs.Records.{Beginning, nameless, begun, record_at, record_bytes, suite_fits, classes_fit, earlier_fits}
-use Rattle.electrictest.specs.Replies.{IsRefusedInput, unloaded, unbegun, unlawful, ReportsBy, OversBy}
+use Rattle.electrictest.specs.Replies.{ReportsBy, OversBy}
 use Rattle.electrictest.specs.Words.{Ask, Asking, is_eager, suite_named, suite_word, word_at}
 use Rattle.electrictest.proofs.DetectedLaws.{have_hashes, held_text, own_hashes, read_back}
 use Rattle.electrictest.proofs.LoadedFacts.{IsLoaded, loaded_from, plain_named, as_many, are_classes, sums_tell, is_good, same_suite}
-use Rattle.electrictest.proofs.OwnRecordLaws.{any_once, begins_once, starts_once, own_ends}
+use Rattle.electrictest.proofs.OwnRecordLaws.{never_refused, starts_once, own_ends}
 
 -- ---- what isn't named isn't picked
 
@@ -103,10 +102,13 @@ module _ (before now : Files) (a : Ask) (was l : Loaded) (plain : is_eager a.wor
   same_sum =
       ap (λ (x : Prints). x.suite) first.prints ∙ (ap (λ (o : Option (List ℕ)). sha256 (unwrap_or o [])) asks.same_text ∙ sym (ap (λ (x : Prints). x.suite) second.prints))
 
+  good : IsGood suite
+  good = is_good before (word_at a.words 1) suite first.suite_is
+
   tests_many : length was.checked.tests ≡ length l.checked.tests
   tests_many =
-      tests_linked suite first.classes (lines_of suite) was.checked was.checked refl first.links refl
-      ∙ sym (tests_linked suite second.classes (lines_of suite) l.checked l.checked refl second.links refl)
+      tests_linked suite first.classes (lines_of suite) was.checked was.checked good.lines refl first.links refl
+      ∙ sym (tests_linked suite second.classes (lines_of suite) l.checked l.checked good.lines refl second.links refl)
 
   classes_many : length first.classes ≡ length second.classes
   classes_many = as_many before suite.classes first.classes first.read ∙ sym (as_many now suite.classes second.classes second.read)
@@ -162,7 +164,6 @@ module _ (before now : Files) (a : Ask) (was l : Loaded) (plain : is_eager a.wor
 
   lines_same : is_detected l.checked ≡ true → (t : ℕ) → IsTestNumber l.checked t → is_picked has.more l.checked l.prints t ≡ false → KeptLines was l t
   lines_same detected t number unpicked =
-      let good : IsGood suite = is_good before (word_at a.words 1) suite first.suite_is in
       let few : length first.classes ≤ 1024 = subst (λ (n : ℕ). n ≤ 1024) (sym (as_many before suite.classes first.classes first.read)) good.few_classes in
       let low : IsTestNumber was.checked t = subst (λ (n : ℕ). (0 < t) × (t ≤ n)) (sym tests_many) number in
       let tell = sums_tell before now asks.sums_tell suite.classes first.classes second.classes first.read second.read in
@@ -196,11 +197,6 @@ module _ (before now : Files) (a : Ask) (was l : Loaded) (plain : is_eager a.wor
   never_over : (f : OverFault) → OversBy a.command now a f → ⊥
   never_over f r = subst (λ (c : Asking). OversBy c now a f) asks.asks r
 
-  never_refused : (f : InputFault) → IsRefusedInput now a f → ⊥
-  never_refused f (unloaded h) = let e = any_once now (is_eager a.words) (suite_word a) (Ok l) (Err (ends.Input f)) asks.load h in absurd (cc)
-  never_refused f (unbegun {l = x} h) = let e = (begins_once now a l (nameless kept) asks.load begun_here x (Err f) h).begins in absurd (cc)
-  never_refused f (unlawful {l = x} {b = b} c h u) = let e = sym asks.asks ∙ c in absurd (cc)
-
 pub earlier_answer : (asked : Asked) (s : Status) (old new : SinkView) → (asked.ask.command ≡ Ok command.Impact → is_eager asked.ask.words ≡ false) → Served asked s old new → EarlierAnswer asked s old new
 earlier_answer asked s old new plain h = λ before was l asks.
     let files = asked.files in
@@ -209,6 +205,6 @@ earlier_answer asked s old new plain h = λ before was l asks.
     own_ends (WroteImpact was l) asked old new
     (λ passed text units r whole counts. wrote before files a was l p asks passed text units old new (reports_impact before files a was l p asks passed text units r) whole)
     (λ e. let none = sym asks.asks ∙ e in absurd (cc))
-    (never_refused before files a was l p asks)
+    (never_refused files a l (nameless (kept before files a was l p asks)) asks.load (begun_here before files a was l p asks) (λ c. let none = sym asks.asks ∙ c in absurd (cc)))
     (never_over before files a was l p asks)
     s h

@@ -13,7 +13,7 @@ module _ (k workers begun now : ℕ) (result : Status) (old new : SinkView) wher
 
   summary_written : (passed : Bool) (text : List ℕ) → Sums k workers passed text begun now → Writes text (report_status passed) result old new → GeneratedEnds k workers begun now result old new
   summary_written true text sums (inl h) = ends_as ends.Done h.0 (record { text = text; sums = sums; whole = h.1 })
-  summary_written false text sums (inl h) = absurd (false≢true sums.summary.passes)
+  summary_written false text sums (inl h) = absurd (false≢true sums.report.passes)
   summary_written passed text sums (inr h) = ends_as ends.Sink h.0 tt
 
   refusal_written : (s : Status) → s ≡ ends.NoMemory → Refused s result old new → GeneratedEnds k workers begun now result old new

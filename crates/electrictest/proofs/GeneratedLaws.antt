@@ -1,5 +1,5 @@
 -- The summary of a generated suite, from its parts.
-use Rattle.std.proofs.Common.{◌≡◌, ◌↔◌, ℕ, ◌+◌, ◌≤◌, List, ◌∷◌, ◌++◌, length, codes, count_by, sum, Bool, refl, sym, ap, ◌∙◌, subst, arith, inl, inr, All, Some, Result, Ok, Err}
+use Rattle.std.proofs.Common.{◌≡◌, ◌↔◌, ℕ, ◌+◌, ◌≤◌, List, ◌∷◌, ◌++◌, length, codes, count_by, sum, Bool, refl, sym, ap, ◌∙◌, subst, arith, inl, inr, All, Some, Result, Ok, Err, IfOk, IfErr}
 use Rattle.std.specs.List.{list_all, range_with_len}
 use Rattle.std.proofs.lemmas.List.FromFn.{length-map-range_with_len, length-range_with_len}
 use Rattle.generated_law.specs.{GeneratedLaw.LoadLaw, GeneratedRun.RunLaw, GeneratedRun.outcome_of}
@@ -11,7 +11,7 @@ use Rattle.jvm_model.proofs.Detection.{no_fault_where_detected}
 use Rattle.order_law.specs.declared.{records.Record.Record, edges.Edge.Edge}
 use Rattle.order_law.specs.{Conflicts.Member, OwnRecord.edges_of, Plan.AreListedChainsOf, Reach.IsRecordOf, Reach.units_in as units_given}
 use Rattle.order_law.proofs.OwnRecord.{range_within, in_range}
-use Rattle.outside.specs.Depot.{Told, DepotView, FailedAt, OfHeld}
+use Rattle.outside.specs.Depot.{DepotView, FailedAt}
 use Rattle.dep_record.specs.RecordText.{said}
 use Rattle.run_core.specs.Run.{Run, history, IsLegal, IsComplete}
 use Rattle.schedule_plan.specs.Plans.{HasUnits}
@@ -21,15 +21,16 @@ use Rattle.suite_load.specs.declared.{load_fault.LoadFault.LoadFault, loaded.Loa
 use Rattle.suite_load.specs.declared.load_fault.LoadFault.TheVariants as fault
 use Rattle.suite_load.specs.{LoadAnswers.LoadAnswers, LoadAnswers.IsProper, Loading.Loads}
 use Rattle.suite_load.proofs.LoadOnce.{loads_once}
-use Rattle.electrictest.specs.declared.{recorded.Request.Request, status.Status.Status}
+use Rattle.electrictest.specs.declared.{recorded.Request.Request, reports.Report.Report, status.Status.Status}
 use Rattle.test_run.specs.declared.tallies.Tally.{Tally}
 use Rattle.electrictest.specs.declared.status.Status.TheVariants as ends
 use Rattle.electrictest.specs.declared.words.Command.TheVariants as command
-use Rattle.electrictest.specs.{Commands.ReportEnds, Commands.Reported, Loads.IsSuite, Loads.status_of, Records.Beginning, Records.beginning}
+use Rattle.electrictest.specs.{Begun.IsOfSuite, Commands.AnswersAny, Loads.IsSuite, Loads.status_of, Records.Beginning, Records.beginning}
 use Rattle.electrictest.specs.Generated.{IsSummary, IsSummed, IsWholeRequest, Sums, conflict_line, own_tests, own_units, summary_by, summary_text, whole_suite, worker_line}
-use Rattle.electrictest.specs.PoolRuns.{AreOwn, IsChosen, IsOfSuite, LawOfOwnRuns, PoolRefused, outcomes}
-use Rattle.electrictest.specs.{Replies.Unreported, Running.RunRefused, Selections.IsTestOf, Tallies.IsTallyOf, TestNames.units_in, Words.Ask}
-use Rattle.electrictest.proofs.{AllTests.closed_all, AskedFor.reports_as, PlanLaws.tests_have, PoolLaws.own_runs, PoolLaws.pool_ran, PoolReplies.is_of_suite}
+use Rattle.electrictest.specs.PoolRuns.{AreOwn, IsChosen, LawOfOwnRuns, PoolRefused, outcomes}
+use Rattle.electrictest.specs.{Running.RunRefused, Selections.IsTestOf, Tallies.IsTallyOf, TestNames.units_in, Words.Ask}
+use Rattle.electrictest.proofs.{AllTests.closed_all, ChosenLaws.is_of_suite, PlanLaws.tests_have, PoolLaws.own_runs, PoolLaws.pool_ran}
+use Rattle.electrictest.proofs.{Answering.counted_as, Answering.refused_by, Answering.reported_by, AskedFor.formed_as, AskedFor.may_pass, AskedFor.reports_as}
 use Rattle.electrictest.proofs.GeneratedRuns.{all_pass, given_is, none_other, passed_many, passes, units_all}
 
 -- ---- loading
@@ -54,12 +55,7 @@ module _ (loads : LoadLaw) (k : ℕ) (few : k ≤ 1024) where
   pub unloaded_as : (Q : List ℕ → Type 0) (f : LoadFault) → LoadAnswers (suite_files k) suite_name (Err f) → IsProper Q f → ((read : List ℕ) → Q read → ⊥) → status_of f ≡ ends.NoMemory
   unloaded_as Q fault.NoMemory h p none = refl
   unloaded_as Q (fault.Depot read) h p none = absurd (none read p)
-  unloaded_as Q (fault.Absent x) h p none = never_refused (fault.Absent x) h
-  unloaded_as Q (fault.TooLarge x) h p none = never_refused (fault.TooLarge x) h
-  unloaded_as Q (fault.Suite line why) h p none = never_refused (fault.Suite line why) h
-  unloaded_as Q (fault.Class x f) h p none = never_refused (fault.Class x f) h
-  unloaded_as Q (fault.Link f) h p none = never_refused (fault.Link f) h
-  unloaded_as Q (fault.Check f) h p none = never_refused (fault.Check f) h
+  unloaded_as Q f h p none = never_refused f h
 
 -- ---- what is loaded
 
@@ -83,14 +79,9 @@ pub run_unsummed : RunLaw → (k : ℕ) → k ≤ 1024 → (l : Loaded) (s : Sta
 run_unsummed runs k few l ends.NoMemory same r = refl
 run_unsummed runs k few l (ends.Over f) same r =
     let none = no_fault_where_detected l.checked (ap is_detected (program_is k l same) ∙ (runs k few).detected) in
-    let e = sym r.1 ∙ none in
+    let e = sym r.passes ∙ none in
     absurd (cc)
-run_unsummed runs k few l (ends.Input f) same r = absurd r
-run_unsummed runs k few l (ends.Depot name) same r = absurd r
-run_unsummed runs k few l ends.Words same r = absurd r
-run_unsummed runs k few l ends.Done same r = absurd r
-run_unsummed runs k few l ends.NotPassed same r = absurd r
-run_unsummed runs k few l ends.Sink same r = absurd r
+run_unsummed runs k few l s same r = absurd r
 
 -- ---- the suite's own record
 
@@ -110,12 +101,7 @@ law_of l b suite linked w named = own_runs l (beginning b) (of_suite l b suite l
 pub pool_unsummed : (l : Loaded) (b : Request) (s : Status) → IsSuite l → Linked l.checked → IsWholeRequest l b → All (IsTestOf l.names) b.tests → PoolRefused l (beginning b) s → s ≡ ends.NoMemory
 pool_unsummed l b ends.NoMemory suite linked w named r = refl
 pool_unsummed l b (ends.Over f) suite linked w named r = absurd ((law_of l b suite linked w named).none_over f r)
-pool_unsummed l b (ends.Input f) suite linked w named r = absurd r
-pool_unsummed l b (ends.Depot name) suite linked w named r = absurd r
-pool_unsummed l b ends.Words suite linked w named r = absurd r
-pool_unsummed l b ends.Done suite linked w named r = absurd r
-pool_unsummed l b ends.NotPassed suite linked w named r = absurd r
-pool_unsummed l b ends.Sink suite linked w named r = absurd r
+pool_unsummed l b s suite linked w named r = absurd r
 
 -- ---- the summary
 
@@ -218,18 +204,16 @@ sums_of runs records chain k workers few l b passed text units begun mid now sam
     let second = ran_units runs records chain k workers few l same kept w.own here law passed text units s in
     record {
       units = own_units k + own_units k;
-      summary = summary_of runs records chain k workers few l same kept w.own here law passed text units s;
-      steps = omega (arith, before, after, first, second);
+      report = summary_of runs records chain k workers few l same kept w.own here law passed text units s;
+      counts = omega (arith, before, after, first, second);
     }
 
 -- ---- what is asked
 
-pub summary_answers : (told : Told) (a : Ask) (k workers : ℕ) (passed : Bool) (text : List ℕ) (begun now : ℕ) → a.command ≡ Ok (command.Gen k workers) → Sums k workers passed text begun now →
-    OfHeld told (λ files. Reported files a passed text begun now)
-summary_answers told a k workers passed text begun now e s = λ files may. record { units = s.units; report = reports_as (Ok (command.Gen k workers)) files a passed text s.units e s.summary; steps = s.steps }
-
-pub summary_refused : (told : Told) (a : Ask) (s : Status) → s ≡ ends.NoMemory → OfHeld told (λ files. Unreported files a s)
-summary_refused told a s e = λ files may. subst (Unreported files a) (sym e) tt
-
-pub summary_ends : (a : Ask) (s : Status) (depot : DepotView) → s ≡ ends.NoMemory → ReportEnds a s depot depot
-summary_ends a s depot e = subst (λ (z : Status). ReportEnds a z depot depot) (sym e) tt
+pub summary_answers : (a : Ask) (depot : DepotView) (k workers begun now : ℕ) (result : Result Report Status) → a.command ≡ Ok (command.Gen k workers) → IfOk result (λ r. Sums k workers r.passed r.text begun now) → IfErr result (λ s. s ≡ ends.NoMemory) →
+    AnswersAny a depot depot begun now result
+summary_answers a depot k workers begun now (Ok r) e sums refused =
+    reported_by (λ files. Unit {0}) a depot depot (λ files may. may) (omega arith) begun now r (λ files may held. counted_as begun now (λ n s. reports_as (Ok (command.Gen k workers)) files a r.passed r.text n e s) sums)
+    (may_pass a.command r.passed (formed_as (command.Gen k workers) a e) sums.report.passes)
+summary_answers a depot k workers begun now (Err s) e sums refused =
+    subst (λ (z : Status). AnswersAny a depot depot begun now (Err z)) (sym refused) (refused_by (λ files. Unit {0}) a depot depot (λ files may. may) (omega arith) begun now ends.NoMemory (λ files may held. tt) tt)

@@ -12,7 +12,6 @@ use Rattle.order_law.specs.{declared.records.Prints.Prints, Pairing.PairedList, 
 use Rattle.outside.specs.Depot.{Files, content}
 use Rattle.suite_load.specs.declared.{suite_text.SuiteText.SuiteText, suite_text.SuiteRefusal.SuiteRefusal, load_fault.LoadFault.LoadFault}
 use Rattle.suite_load.specs.declared.suite_text.SuiteRefusal.TheVariants as refusals
-use Rattle.suite_load.specs.declared.load_fault.LoadFault.TheVariants as fault
 use Rattle.suite_load.specs.{declared.loaded.Loaded.Loaded, SuiteForm.suite_of}
 use Rattle.suite_load.proofs.{GoodLines.IsGood, GoodLines.good_suite, SumLaws.by_content}
 use Rattle.suite_load.specs.Loading.{◌>>=◌, within, file_of, file_limit, room_after, suite_answer, suite_in, class_answer, class_in, classes_in, read_in, bytes_of, sums_in, lines_of, names_in, typed_answer, loaded_of, checked_of, ReadGives, Loads}

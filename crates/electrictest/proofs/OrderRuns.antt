@@ -5,7 +5,7 @@ use Rattle.jvm_model.specs.{declared.outcome.Outcome.Outcome, Texts.is_passed}
 use Rattle.order_law.specs.Conflicts.{Member, Lawful}
 use Rattle.suite_load.specs.declared.loaded.Loaded.{Loaded}
 use Rattle.test_run.specs.Running.{IsTest}
-use Rattle.electrictest.specs.{declared.status.Status.Status, Loads.IsSuite, Orders.order_report, Orders.Reports, Records.Beginning, TestNames.units_in}
+use Rattle.electrictest.specs.{declared.status.Status.Status, Begun.AreCounted, Loads.IsSuite, Orders.order_report, Orders.IsOrderReport, Records.Beginning, TestNames.units_in}
 use Rattle.electrictest.specs.declared.status.Status.TheVariants as ends
 use Rattle.electrictest.specs.Running.{RanInOrder, ListRefused, OrderRefused}
 use Rattle.schedule_plan.proofs.Totals.{few}
@@ -30,7 +30,7 @@ module _ (l : Loaded) (b : Beginning) (lawful : Lawful b.said.edges b.tests) whe
       omega arith
 
   -- the report on them
-  pub order_reported : (os : List Outcome) (passed : Bool) (text : List ℕ) (begun now : ℕ) → RanInOrder l b.tests begun now os → text ≡ order_report l.names b.tests os → passed ≡ list_all is_passed os → Reports l b passed text begun now
+  pub order_reported : (os : List Outcome) (passed : Bool) (text : List ℕ) (begun now : ℕ) → RanInOrder l b.tests begun now os → text ≡ order_report l.names b.tests os → passed ≡ list_all is_passed os → AreCounted (IsOrderReport l b passed text) begun now
   order_reported os passed text begun now r e q = record {
     units = units_in os;
     report = record {
@@ -48,9 +48,4 @@ module _ (l : Loaded) (b : Beginning) (lawful : Lawful b.said.edges b.tests) whe
   pub order_over : (s : Status) → ListRefused l b.tests s → OrderRefused l b s
   order_over ends.NoMemory r = tt
   order_over (ends.Over f) r = record { lawful = lawful; test = r.0; first = r.1; named = r.2 }
-  order_over (ends.Input f) r = absurd r
-  order_over (ends.Depot name) r = absurd r
-  order_over ends.Words r = absurd r
-  order_over ends.Done r = absurd r
-  order_over ends.NotPassed r = absurd r
-  order_over ends.Sink r = absurd r
+  order_over s r = absurd r

@@ -1,5 +1,5 @@
 -- What cones and the manifest are answered with the suite's own record.
-use Rattle.std.proofs.Common.{◌≡◌, ℕ, ◌+◌, List, [], ◌∷◌, map, Bool, true, Option, Some, None, Ok, Err, refl, sym, ap, ◌∙◌, subst, inl, inr, arith}
+use Rattle.std.proofs.Common.{◌≡◌, ℕ, ◌+◌, List, [], ◌∷◌, map, Bool, true, Option, Some, None, Ok, refl, sym, ap, ◌∙◌, subst, inl, inr, arith}
 use Rattle.jvm_model.specs.declared.{outcome.Outcome.Outcome, program.Program.Program}
 use Rattle.jvm_model.specs.{Linked.Linked, Suite.first_over, Suite.is_detected, Suite.last_outcome, Suite.seq}
 use Rattle.order_law.specs.{declared.edges.Edge.Edge, declared.edges.EdgeKind.TheVariants.Raw, Conflicts.HasEdge, Conflicts.Member}
@@ -11,15 +11,14 @@ use Rattle.cone_run.proofs.ConeLaw.{own_cone_law}
 use Rattle.outside.specs.{Depot.Files, Sink.SinkView}
 use Rattle.suite_load.specs.declared.loaded.Loaded.{Loaded}
 use Rattle.electrictest.specs.declared.{status.Status.Status, status.InputFault.InputFault, status.OverFault.OverFault, words.Command.Command}
-use Rattle.electrictest.specs.declared.status.Status.TheVariants as ends
 use Rattle.electrictest.specs.declared.words.Command.TheVariants as command
-use Rattle.electrictest.specs.{Commands.Asked, Commands.Served, Commands.Whole, ConeRuns.IsConeReport, ConeRuns.IsOverCone, ConeRuns.OfBegun}
-use Rattle.electrictest.specs.{Loads.Begins, Loads.begun_by, Loads.fits_for, Loads.named_by, Records.Beginning, Records.record_fits, Manifests.IsManifest}
-use Rattle.electrictest.specs.{OwnRecords.AsksOwnRecord, OwnRecords.HoldsSaying, PoolRuns.IsOfSuite, Words.Ask, Words.Asking, Words.is_eager, Words.suite_word}
+use Rattle.electrictest.specs.{Commands.Asked, Commands.Served, Commands.Whole, ConeRuns.IsConeReport, ConeRuns.IsOverCone, Begun.IsOfSuite, Begun.OfBegun}
+use Rattle.electrictest.specs.{Loads.begun_by, Loads.fits_for, Loads.named_by, Records.Beginning, Records.record_fits, Manifests.IsManifest}
+use Rattle.electrictest.specs.{OwnRecords.AsksOwnRecord, OwnRecords.HoldsSaying, Words.Ask, Words.Asking}
 use Rattle.electrictest.specs.OwnCones.{AsksOwn, HoldsRecord, IsOwnConeReport, IsOwnManifest, IsOwnMark, OwnConesAnswer, OwnManifestAnswer, WroteBy}
-use Rattle.electrictest.specs.Replies.{IsRefusedInput, unloaded, unbegun, unlawful, ReportsBy, OversBy}
+use Rattle.electrictest.specs.Replies.{IsRefusedInput, ReportsBy, OversBy}
 use Rattle.electrictest.proofs.DetectedLaws.{says_own}
-use Rattle.electrictest.proofs.OwnRecordLaws.{any_once, own_start, begun_by_own, begins_once, starts_once, own_ends}
+use Rattle.electrictest.proofs.OwnRecordLaws.{own_start, begun_by_own, never_refused, of_start, own_ends}
 
 -- ---- cones by the suite's own edges
 
@@ -70,42 +69,30 @@ module _ (c : Command) (IsReport : Loaded → Beginning → Bool → List ℕ �
   begun_here : begun_by files a l ≡ Some (Ok start)
   begun_here = begun_by_own files a l saying tests (ap (λ (x : Asking). named_by x a.words l) own.asks ∙ own.named) (ap fits_for own.asks ∙ fits)
 
-  starts : (x : Loaded) (b : Beginning) → Begins files a x (Ok b) → (x ≡ l) × (b ≡ start)
-  starts x b h = starts_once files a l start saying.load begun_here x b h
-
   wrote : (IsOwn : Beginning → Bool → List ℕ → ℕ → Type 0)
       (law : (b : Beginning) (passed : Bool) (text : List ℕ) (units : ℕ) → IsOfSuite l b → b.said.edges ≡ edges_of l.checked → IsReport l b passed text units → IsOwn b passed text units)
       (asked : Asked) (passed : Bool) (text : List ℕ) (units : ℕ) (old new : SinkView) → OfBegun (λ x b. IsReport x b passed text units) files a → Whole text old new → asked.now ≡ asked.begun + units →
       WroteBy IsOwn asked l tests passed old new
   wrote IsOwn law asked passed text units old new r whole counts =
-      let same = starts r.loaded r.beginning r.begins in
-      let report : IsReport l r.beginning passed text units = subst (λ (x : Loaded). IsReport x r.beginning passed text units) same.0 r.is in
-      let suite : IsOfSuite l r.beginning = subst (λ (x : Loaded). IsOfSuite x r.beginning) same.0 r.suite in
-      let edges : r.beginning.said.edges ≡ edges_of l.checked = ap (λ (b : Beginning). b.said.edges) same.1 ∙ saying.own.edges in
+      let here = of_start files a l start saying.load begun_here (λ x b. IsReport x b passed text units) r in
       record {
-        beginning = r.beginning;
-        tests_are = ap (λ (b : Beginning). b.tests) same.1;
-        edges_are = edges;
+        beginning = start;
+        tests_are = refl;
+        edges_are = saying.own.edges;
         text = text;
         units = units;
-        report = law r.beginning passed text units suite edges report;
+        report = law start passed text units here.0 saying.own.edges here.1;
         whole = whole;
         steps = counts;
       }
 
   never_over : (number : (b : Beginning) → IsOfSuite l b → b.said.edges ≡ edges_of l.checked → (t : ℕ) → S b t → IsTestNumber l.checked t) (f : OverFault) → OfBegun (λ x b. IsOverCone x b (S b) f) files a → ⊥
   never_over number f r =
-      let same = starts r.loaded r.beginning r.begins in
-      let b = r.beginning in
-      let suite : IsOfSuite l b = subst (λ (x : Loaded). IsOfSuite x b) same.0 r.suite in
-      let over : IsOverCone l b (S b) f = subst (λ (x : Loaded). IsOverCone x b (S b) f) same.0 r.is in
-      let edges : b.said.edges ≡ edges_of l.checked = ap (λ (y : Beginning). y.said.edges) same.1 ∙ saying.own.edges in
-      none_first l.checked b.said.edges edges suite.linked saying.detected (S b) over.test (number b suite edges) over.first
+      let here = of_start files a l start saying.load begun_here (λ x b. IsOverCone x b (S b) f) r in
+      none_first l.checked start.said.edges saying.own.edges here.0.linked saying.detected (S start) here.1.test (number start here.0 saying.own.edges) here.1.first
 
-  never_refused : (◌≡◌ {A = Asking} (Ok c) (Ok command.Order) → ⊥) → (f : InputFault) → IsRefusedInput files a f → ⊥
-  never_refused no_order f (unloaded h) = let e = any_once files (is_eager a.words) (suite_word a) (Ok l) (Err (ends.Input f)) saying.load h in absurd (cc)
-  never_refused no_order f (unbegun {l = x} h) = let e = (begins_once files a l start saying.load begun_here x (Err f) h).begins in absurd (cc)
-  never_refused no_order f (unlawful {l = x} {b = b} e h u) = no_order (sym own.asks ∙ e)
+  not_refused : (◌≡◌ {A = Asking} (Ok c) (Ok command.Order) → ⊥) → (f : InputFault) → IsRefusedInput files a f → ⊥
+  not_refused no_order = never_refused files a l start saying.load begun_here (λ e. absurd (no_order (sym own.asks ∙ e)))
 
 pub own_cones_answer : (asked : Asked) (s : Status) (old new : SinkView) → Served asked s old new → OwnConesAnswer asked s old new
 own_cones_answer asked s old new h = λ workers l tests own.
@@ -120,7 +107,7 @@ own_cones_answer asked s old new h = λ workers l tests own.
     })
     asked passed text units old new (subst (λ (x : Asking). ReportsBy x files a passed text units) own.asks r))
     (λ e. let none = sym own.asks ∙ e in absurd (cc))
-    (never_refused c IsConeReport (λ b t. Member t b.tests) files a l tests own refl (λ e. absurd (cc)))
+    (not_refused c IsConeReport (λ b t. Member t b.tests) files a l tests own refl (λ e. absurd (cc)))
     (λ f r. never_over c IsConeReport (λ b t. Member t b.tests) files a l tests own refl (λ b suite edges. suite.tests) f (subst (λ (x : Asking). OversBy x files a f) own.asks r))
     s h
 
@@ -137,7 +124,7 @@ own_manifest_answer asked s old new h = λ l own.
     })
     asked passed text units old new (subst (λ (x : Asking). ReportsBy x files a passed text units) own.asks r))
     (λ e. let none = sym own.asks ∙ e in absurd (cc))
-    (never_refused c IsManifest (λ b. HasWriter b.said.edges) files a l [] own refl (λ e. absurd (cc)))
+    (not_refused c IsManifest (λ b. HasWriter b.said.edges) files a l [] own refl (λ e. absurd (cc)))
     (λ f r. never_over c IsManifest (λ b. HasWriter b.said.edges) files a l [] own refl
     (λ b suite edges t w. later_number l.checked b.said.edges edges suite.linked own.by.detected w.0 t w.1) f (subst (λ (x : Asking). OversBy x files a f) own.asks r))
     s h

@@ -1,5 +1,5 @@
 -- What the words of an order are answered with the suite's own record.
-use Rattle.std.proofs.Common.{◌≡◌, ℕ, ◌+◌, List, [], ◌∷◌, map, Bool, Option, Some, is_some, is_none, unwrap_or, Result, Ok, Err, refl, sym, ap, ◌∙◌, subst}
+use Rattle.std.proofs.Common.{◌≡◌, ℕ, ◌+◌, List, [], ◌∷◌, map, Bool, Option, Some, is_some, is_none, unwrap_or, Result, Ok, refl, sym, ap, ◌∙◌, subst}
 use Rattle.std.proofs.lemmas.Bool.{false≢true}
 use Rattle.jvm_model.specs.{declared.outcome.Outcome.Outcome, declared.program.Program.Program, Suite.Given, Suite.seq, Suite.runs, Suite.first_over}
 use Rattle.jvm_model.proofs.FirstOver.{first_over_none}
@@ -8,13 +8,12 @@ use Rattle.order_law.proofs.{OrderFaults.law_of_faults, OwnRecord.own_law}
 use Rattle.outside.specs.{Depot.Files, Sink.SinkView}
 use Rattle.suite_load.specs.declared.loaded.Loaded.{Loaded}
 use Rattle.electrictest.specs.declared.status.{Status.Status, InputFault.InputFault, OverFault.OverFault}
-use Rattle.electrictest.specs.declared.status.Status.TheVariants as ends
-use Rattle.electrictest.specs.{Commands.Asked, Commands.Served, Commands.Whole, Loads.Begins, Loads.begun_by, Loads.fits_for, Loads.named_by}
+use Rattle.electrictest.specs.{Commands.Asked, Commands.Served, Commands.Whole, Loads.begun_by, Loads.fits_for, Loads.named_by}
 use Rattle.electrictest.specs.Orders.{IsOrderReport, IsOrdered, IsOrderedOver, IsOverOrder, IsUnlawful, OwnOrders}
-use Rattle.electrictest.specs.{OwnLists.AsksOwnOrder, OwnLists.WroteOrder, OwnLists.OwnOrderAnswer, Words.Ask, Words.Asking, Words.is_eager, Words.suite_word}
-use Rattle.electrictest.specs.{OwnRecords.HoldsSaying, PoolRuns.IsOfSuite, Records.Beginning}
-use Rattle.electrictest.specs.Replies.{IsRefusedInput, unloaded, unbegun, unlawful, ReportsBy, OversBy}
-use Rattle.electrictest.proofs.OwnRecordLaws.{any_once, own_start, begun_by_own, begins_once, starts_once, own_ends}
+use Rattle.electrictest.specs.{OwnLists.AsksOwnOrder, OwnLists.WroteOrder, OwnLists.OwnOrderAnswer, Words.Ask, Words.Asking}
+use Rattle.electrictest.specs.{OwnRecords.HoldsSaying, Records.Beginning}
+use Rattle.electrictest.specs.Replies.{ReportsBy, OversBy}
+use Rattle.electrictest.proofs.OwnRecordLaws.{own_start, begun_by_own, never_refused, of_start, own_ends}
 
 -- ---- an order by the suite's own edges
 
@@ -46,21 +45,13 @@ module _ (files : Files) (a : Ask) (l : Loaded) (tests : List ℕ) (own : AsksOw
       begun_by_own files a l own.by tests
       (ap (λ (c : Asking). named_by c a.words l) own.asks ∙ ap (λ (r : Result (List ℕ) InputFault). Some r) own.named) (ap fits_for own.asks)
 
-  starts : (x : Loaded) (b : Beginning) → Begins files a x (Ok b) → (x ≡ l) × (b ≡ start)
-  starts x b h = starts_once files a l start own.by.load begun_here x b h
-
-  lawful_own : Lawful start.said.edges start.tests
-  lawful_own = subst (λ (es : List Edge). Lawful es tests) (sym own.by.own.edges) own.lawful
-
   wrote : (asked : Asked) (passed : Bool) (text : List ℕ) (units : ℕ) (old new : SinkView) → IsOrdered files a passed text units → Whole text old new → asked.now ≡ asked.begun + units → WroteOrder asked l tests passed old new
   wrote asked passed text units old new r whole counts =
-      let same = starts r.loaded r.beginning r.begins in
-      let suite : IsOfSuite l start = subst (λ (y : Loaded × Beginning). IsOfSuite y.0 y.1) (λ i. (same.0 i, same.1 i)) r.suite in
-      let report : IsOrderReport l start passed text units = subst (λ (y : Loaded × Beginning). IsOrderReport y.0 y.1 passed text units) (λ i. (same.0 i, same.1 i)) r.report in
-      let outcomes = map (λ (x : Given). x.outcome) report.given in
+      let here = of_start files a l start own.by.load begun_here (λ x b. IsOrderReport x b passed text units) r in
+      let report = here.1 in
       record {
-        outcomes = outcomes;
-        own = sequential_are l.checked tests report.given (own_orders l start passed text units suite own.by.detected own.by.own.edges report);
+        outcomes = map (λ (x : Given). x.outcome) report.given;
+        own = sequential_are l.checked tests report.given (own_orders l start passed text units here.0 own.by.detected own.by.own.edges report);
         verdicts = report.verdicts;
         whole = subst (λ (z : List ℕ). Whole z old new) report.reports whole;
         steps = counts ∙ ap (λ (n : ℕ). asked.begun + n) report.sum;
@@ -68,28 +59,18 @@ module _ (files : Files) (a : Ask) (l : Loaded) (tests : List ℕ) (own : AsksOw
 
   never_over : (f : OverFault) → IsOrderedOver files a f → ⊥
   never_over f r =
-      let same = starts r.loaded r.beginning r.begins in
-      let over : IsOverOrder l start f = subst (λ (y : Loaded × Beginning). IsOverOrder y.0 y.1 f) (λ i. (same.0 i, same.1 i)) r.over in
-      let suite : IsOfSuite l start = subst (λ (y : Loaded × Beginning). IsOfSuite y.0 y.1) (λ i. (same.0 i, same.1 i)) r.suite in
-      let law = own_law l.checked tests suite.linked own.by.detected suite.tests own.lawful in
-      none_passes l.checked tests law.0 over.test law.1 over.first
+      let here = of_start files a l start own.by.load begun_here (λ x b. IsOverOrder x b f) r in
+      let law = own_law l.checked tests here.0.linked own.by.detected here.0.tests own.lawful in
+      none_passes l.checked tests law.0 here.1.test law.1 here.1.first
 
-  never_unlawful : (x : Loaded) (b : Beginning) (f : InputFault) → Begins files a x (Ok b) → IsUnlawful x b f → ⊥
-  never_unlawful x b f h u =
-      let same = starts x b h in
-      let fault = law_of_faults b.said.edges b.tests in
-      fault.unlawful u.found u.fault (subst (λ (y : Beginning). Lawful y.said.edges y.tests) (sym same.1) lawful_own)
-
-  never_refused : (f : InputFault) → IsRefusedInput files a f → ⊥
-  never_refused f (unloaded h) = let e = any_once files (is_eager a.words) (suite_word a) (Ok l) (Err (ends.Input f)) own.by.load h in absurd (cc)
-  never_refused f (unbegun {l = x} h) = let e = (begins_once files a l start own.by.load begun_here x (Err f) h).begins in absurd (cc)
-  never_refused f (unlawful {l = x} {b = b} c h u) = never_unlawful x b f h u
+  never_unlawful : (f : InputFault) → IsUnlawful l start f → ⊥
+  never_unlawful f u = (law_of_faults start.said.edges tests).unlawful u.found u.fault (subst (λ (es : List Edge). Lawful es tests) (sym own.by.own.edges) own.lawful)
 
 pub own_order_answer : (asked : Asked) (s : Status) (old new : SinkView) → Served asked s old new → OwnOrderAnswer asked s old new
 own_order_answer asked s old new h = λ l tests own.
     own_ends (WroteOrder asked l tests) asked old new
     (λ passed text units r. wrote asked.files asked.ask l tests own asked passed text units old new (subst (λ (c : Asking). ReportsBy c asked.files asked.ask passed text units) own.asks r))
     (λ e. let none = sym own.asks ∙ e in absurd (cc))
-    (never_refused asked.files asked.ask l tests own)
+    (never_refused asked.files asked.ask l (start asked.files asked.ask l tests own) own.by.load (begun_here asked.files asked.ask l tests own) (λ c. never_unlawful asked.files asked.ask l tests own))
     (λ f r. never_over asked.files asked.ask l tests own f (subst (λ (c : Asking). OversBy c asked.files asked.ask f) own.asks r))
     s h

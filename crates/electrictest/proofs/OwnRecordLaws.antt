@@ -1,5 +1,5 @@
 -- What a command begins with, and is answered, with the suite's own record.
-use Rattle.std.proofs.Common.{◌≡◌, ℕ, ◌+◌, List, length, Bool, true, false, ◌==◌, Option, Some, None, option_map, unwrap_or, Result, Ok, Err, refl, sym, ap, ◌∙◌}
+use Rattle.std.proofs.Common.{◌≡◌, ℕ, ◌+◌, List, length, Bool, true, false, ◌==◌, Option, Some, None, option_map, unwrap_or, Result, Ok, Err, refl, sym, ap, ◌∙◌, subst}
 use Rattle.std.specs.Str.{bytes_eq}
 use Rattle.std.proofs.lemmas.{Bool.eq-eqb, Slice.Eq.bytes_eq-Decides, List.FromFn.length-map-range_with_len}
 use Rattle.jvm_model.specs.Suite.{seq}
@@ -10,10 +10,12 @@ use Rattle.suite_load.specs.declared.loaded.Loaded.{Loaded}
 use Rattle.suite_load.proofs.LoadOnce.{loads_once}
 use Rattle.electrictest.specs.declared.status.{Status.Status, InputFault.InputFault, OverFault.OverFault}
 use Rattle.electrictest.specs.declared.status.Status.TheVariants as ends
+use Rattle.electrictest.specs.declared.words.Command.TheVariants as command
+use Rattle.electrictest.specs.{Begun.IsOfSuite, Begun.OfBegun, Orders.IsUnlawful}
 use Rattle.electrictest.specs.{Commands.Asked, Commands.Served, Commands.Whole, OwnRecords.AsksOwnRecord, OwnRecords.HoldsSaying, OwnRecords.OwnEndsBy}
 use Rattle.electrictest.specs.Loads.{LoadsFor, LoadsNamed, LoadsAny, answered, prepared, Begins, begun_by, fits_for, named_by}
 use Rattle.electrictest.specs.Records.{Beginning, begun, record_at, record_fits, classes_fit}
-use Rattle.electrictest.specs.Replies.{IsRefusedInput, Reports, OversBy}
+use Rattle.electrictest.specs.Replies.{IsRefusedInput, unloaded, unbegun, unlawful, Reports, OversBy}
 use Rattle.electrictest.specs.Words.{Ask, is_eager, word_at, suite_word, unformed}
 
 -- ---- a suite is loaded in one way
@@ -54,6 +56,18 @@ module _ (files : Files) (a : Ask) (l : Loaded) (start : Beginning) (load : Load
   pub starts_once : (x : Loaded) (b : Beginning) → Begins files a x (Ok b) → (x ≡ l) × (b ≡ start)
   unfolding beginning_or
   starts_once x b h = let s = begins_once x (Ok b) h in (s.loaded, ap (λ (r : Result Beginning InputFault). beginning_or b r) s.begins)
+
+  -- so what is said of what is begun is said of these
+  pub of_start : (Is : Loaded → Beginning → Type 0) → OfBegun Is files a → IsOfSuite l start × Is l start
+  of_start Is r =
+      let same = starts_once r.loaded r.beginning r.begins in
+      subst (λ (y : Loaded × Beginning). IsOfSuite y.0 y.1 × Is y.0 y.1) (λ i. (same.0 i, same.1 i)) (r.suite, r.is)
+
+  -- and the input is refused only for an order that isn't lawful
+  pub never_refused : (a.command ≡ Ok command.Order → (f : InputFault) → IsUnlawful l start f → ⊥) → (f : InputFault) → IsRefusedInput files a f → ⊥
+  never_refused lawful f (unloaded h) = let e = any_once files (is_eager a.words) (suite_word a) (Ok l) (Err (ends.Input f)) load h in absurd (cc)
+  never_refused lawful f (unbegun {l = x} h) = let e = (begins_once x (Err f) h).begins in absurd (cc)
+  never_refused lawful f (unlawful {l = x} {b = b} c h u) = let same = starts_once x b h in lawful c f (subst (λ (y : Loaded × Beginning). IsUnlawful y.0 y.1 f) (λ i. (same.0 i, same.1 i)) u)
 
 -- ---- the suite's own record is of the suite
 

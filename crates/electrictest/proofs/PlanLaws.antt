@@ -6,12 +6,10 @@ use Rattle.order_law.specs.declared.edges.{Edge.Edge, EdgeKind.TheVariants.Raw}
 use Rattle.order_law.specs.{Conflicts.Member, Conflicts.Closure, Conflicts.selected, Conflicts.source, Plan.AreListedChainsOf, RecordForm.is_record_form}
 use Rattle.dep_graph.specs.Graphs.{GoUp}
 use Rattle.selection_close.specs.Closed.{IsClosure}
-use Rattle.outside.specs.Depot.{Told}
 use Rattle.suite_load.specs.declared.loaded.Loaded.{Loaded}
 use Rattle.schedule_plan.specs.Plans.{HasUnits, HaveUnits}
 use Rattle.schedule_plan.proofs.Places.{place_of}
-use Rattle.electrictest.specs.declared.status.Status.TheVariants as ends
-use Rattle.electrictest.specs.{Words.Ask, Selections.IsTestOf, Loads.IsSuite, Commands.RefusedOver}
+use Rattle.electrictest.specs.{Selections.IsTestOf, Loads.IsSuite}
 
 pub plus_none : (ns : List ℕ) → map (λ n. n + 0) ns ≡ ns
 plus_none [] = refl
@@ -58,7 +56,3 @@ tests_have l ts us units s e h many t m =
     let low = q.1 in
     let same = s.names in
     subst (λ (x : ℕ). (0 < x) × (x ≤ length units)) p.2 (q.0, omega arith)
-
--- memory may be refused to any plan
-pub unplanned : (told : Told) (a : Ask) (l : Loaded) → RefusedOver told a l ends.NoMemory
-unplanned told a l = λ files may h. tt

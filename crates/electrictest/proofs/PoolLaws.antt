@@ -10,10 +10,10 @@ use Rattle.order_law.specs.Plan as law
 use Rattle.run_core.specs.Run.{Gave, Run, history, IsLegal, IsComplete}
 use Rattle.worker_pool.specs.Plans.{units_of}
 use Rattle.test_run.specs.declared.tallies.Tally.{Tally}
-use Rattle.electrictest.specs.{Logs.log_text, Tallies.IsTallyOf, Tallies.report_text, Records.Beginning}
+use Rattle.electrictest.specs.{Begun.IsOfSuite, Logs.log_text, Tallies.IsTallyOf, Tallies.report_text, Records.Beginning}
 use Rattle.electrictest.proofs.{TallyLaws.report_is, UnitLaws.units_of_posts, WholeThenPart.part_gives}
 use Rattle.suite_load.specs.declared.loaded.Loaded.{Loaded}
-use Rattle.electrictest.specs.PoolRuns.{AreGiven, AreOwn, IsChosen, IsOfSuite, IsPoolRan, IsPoolReport, OwnRuns}
+use Rattle.electrictest.specs.PoolRuns.{AreGiven, AreOwn, IsChosen, IsPoolRan, IsPoolReport, OwnRuns}
 
 -- ---- the closure
 

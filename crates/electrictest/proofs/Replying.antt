@@ -4,7 +4,7 @@ use Rattle.outside.specs.{Depot.Files, Depot.Told, Depot.DepotView, Depot.OfHeld
 use Rattle.electrictest.specs.{declared.reports.Report.Report, declared.status.Status.Status, Words.Ask, Causes.MayReport}
 use Rattle.electrictest.specs.declared.status.Status.TheVariants as ends
 use Rattle.electrictest.specs.Replies.{fault_line, Unreported, IsAnswer}
-use Rattle.electrictest.specs.Commands.{ReportEnds, Reported, Whole, Writes, Refused, Taken, Counted, DepotFailed, Asked, called, Answering, Replied, Served, Ends, report_status}
+use Rattle.electrictest.specs.Commands.{AnswersAny, ReportEnds, Reported, Whole, Writes, Refused, Taken, Counted, DepotFailed, Asked, called, Answering, Replied, Served, Ends, report_status}
 
 -- a text that answers what is asked was written as a whole, or the sink took a part of it
 written_at : (asked : Asked) (s result : Status) (sink sink_now : SinkView) (reply : Answering asked s) → (Replied asked s sink sink_now → Served asked s sink sink_now) →
@@ -16,8 +16,8 @@ written_at asked s result sink sink_now reply served (inr h) = subst (λ z. Serv
 
 done_at : (asked : Asked) (passed : Bool) (text : List ℕ) (result : Status) (sink sink_now : SinkView) → Reported asked.files asked.ask passed text asked.begun asked.now →
     Writes text (report_status passed) result sink sink_now → Served asked result sink sink_now
-done_at asked true text result sink sink_now r w = written_at asked ends.Done result sink sink_now (record { text = text; units = r.units; answers = r.report; counted = r.steps; failed = tt }) (λ h. h) w
-done_at asked false text result sink sink_now r w = written_at asked ends.NotPassed result sink sink_now (record { text = text; units = r.units; answers = r.report; counted = r.steps; failed = tt }) (λ h. h) w
+done_at asked true text result sink sink_now r w = written_at asked ends.Done result sink sink_now (record { text = text; units = r.units; answers = r.report; counted = r.counts; failed = tt }) (λ h. h) w
+done_at asked false text result sink sink_now r w = written_at asked ends.NotPassed result sink sink_now (record { text = text; units = r.units; answers = r.report; counted = r.counts; failed = tt }) (λ h. h) w
 
 -- a report was written
 served_done : (told : Told) (a b : Ask) (depot depot_now : DepotView) (begun now : ℕ) (passed : Bool) (text : List ℕ) (result : Status) (sink sink_now : SinkView) → a ≡ b →
@@ -41,53 +41,31 @@ ends_done a b passed text result depot depot_now sink sink_now e f (inr h) = sub
 
 line_answers : (files : Files) (a : Ask) (s : Status) → s ≢ ends.NoMemory → Unreported files a s → IsAnswer files a s (fault_line s) 0
 line_answers files a ends.NoMemory n r = absurd (n refl)
-line_answers files a ends.Words n r = (r, refl)
-line_answers files a (ends.Input f) n r = (r, refl)
-line_answers files a (ends.Depot name) n r = (r, refl)
-line_answers files a (ends.Over f) n r = (r, refl)
 line_answers files a ends.Done n r = absurd r
 line_answers files a ends.NotPassed n r = absurd r
 line_answers files a ends.Sink n r = absurd r
+line_answers files a s n r = (r, refl)
 
 line_counted : (a : Ask) (s : Status) (depot depot_now : DepotView) (begun now : ℕ) → ReportEnds a s depot depot_now → Counted s 0 begun now
-line_counted a ends.NoMemory depot depot_now begun now r = tt
-line_counted a ends.Words depot depot_now begun now r = tt
-line_counted a (ends.Input f) depot depot_now begun now r = tt
-line_counted a (ends.Depot name) depot depot_now begun now r = tt
-line_counted a (ends.Over f) depot depot_now begun now r = tt
 line_counted a ends.Done depot depot_now begun now r = absurd r
 line_counted a ends.NotPassed depot depot_now begun now r = absurd r
-line_counted a ends.Sink depot depot_now begun now r = absurd r
+line_counted a s depot depot_now begun now r = tt
 
 line_failed : (a : Ask) (s : Status) (depot depot_now : DepotView) → ReportEnds a s depot depot_now → DepotFailed s depot depot_now
-line_failed a ends.NoMemory depot depot_now r = tt
-line_failed a ends.Words depot depot_now r = tt
-line_failed a (ends.Input f) depot depot_now r = tt
 line_failed a (ends.Depot name) depot depot_now r = r.1
-line_failed a (ends.Over f) depot depot_now r = tt
-line_failed a ends.Done depot depot_now r = absurd r
-line_failed a ends.NotPassed depot depot_now r = absurd r
-line_failed a ends.Sink depot depot_now r = absurd r
+line_failed a s depot depot_now r = tt
 
 line_served : (asked : Asked) (s : Status) (sink sink_now : SinkView) → s ≢ ends.NoMemory → ReportEnds asked.ask s asked.depot asked.depot_now → Replied asked s sink sink_now → Served asked s sink sink_now
 line_served asked ends.NoMemory sink sink_now n r h = absurd (n refl)
-line_served asked ends.Words sink sink_now n r h = h
-line_served asked (ends.Input f) sink sink_now n r h = h
-line_served asked (ends.Depot name) sink sink_now n r h = h
-line_served asked (ends.Over f) sink sink_now n r h = h
-line_served asked ends.Done sink sink_now n r h = absurd r
-line_served asked ends.NotPassed sink sink_now n r h = absurd r
 line_served asked ends.Sink sink sink_now n r h = absurd r
+line_served asked s sink sink_now n r h = h
 
 line_taken : (a : Ask) (s : Status) (depot depot_now : DepotView) (sink sink_now : SinkView) → s ≢ ends.NoMemory → ReportEnds a s depot depot_now → Whole (fault_line s) sink sink_now → Taken s sink sink_now
 line_taken a ends.NoMemory depot depot_now sink sink_now n r h = absurd (n refl)
-line_taken a ends.Words depot depot_now sink sink_now n r h = h
-line_taken a (ends.Input f) depot depot_now sink sink_now n r h = h
-line_taken a (ends.Depot name) depot depot_now sink sink_now n r h = h
-line_taken a (ends.Over f) depot depot_now sink sink_now n r h = h
 line_taken a ends.Done depot depot_now sink sink_now n r h = absurd r
 line_taken a ends.NotPassed depot depot_now sink sink_now n r h = absurd r
 line_taken a ends.Sink depot depot_now sink sink_now n r h = absurd r
+line_taken a s depot depot_now sink sink_now n r h = h
 
 refused_at : (asked : Asked) (s result : Status) (sink sink_now : SinkView) → Unreported asked.files asked.ask s → ReportEnds asked.ask s asked.depot asked.depot_now → Refused s result sink sink_now → Served asked result sink sink_now
 refused_at asked s result sink sink_now r e (inr h) = subst (λ z. Served asked z sink sink_now) (sym h.0) h.1
@@ -114,14 +92,10 @@ taken_refused a depot depot_now s result sink sink_now e (inl (n, inl h)) = subs
 taken_refused a depot depot_now s result sink sink_now e (inl (n, inr h)) = subst (λ z. Taken z sink sink_now) (sym h.0) (fault_line s, h.1)
 
 line_ends : (a : Ask) (s : Status) (depot depot_now : DepotView) (sink sink_now : SinkView) → ReportEnds a s depot depot_now → Ends a s depot depot_now sink sink_now
-line_ends a ends.NoMemory depot depot_now sink sink_now e = e
-line_ends a ends.Words depot depot_now sink sink_now e = e
-line_ends a (ends.Input f) depot depot_now sink sink_now e = e
-line_ends a (ends.Depot name) depot depot_now sink sink_now e = e
-line_ends a (ends.Over f) depot depot_now sink sink_now e = e
 line_ends a ends.Done depot depot_now sink sink_now e = absurd e
 line_ends a ends.NotPassed depot depot_now sink sink_now e = absurd e
 line_ends a ends.Sink depot depot_now sink sink_now e = absurd e
+line_ends a s depot depot_now sink sink_now e = e
 
 ends_refused : (a b : Ask) (s result : Status) (depot depot_now : DepotView) (sink sink_now : SinkView) → a ≡ b → ReportEnds a s depot depot_now → Refused s result sink sink_now → Ends b result depot depot_now sink sink_now
 ends_refused a b s result depot depot_now sink sink_now q e (inr h) = subst (λ z. Ends b z depot depot_now sink sink_now) (sym h.0) tt
@@ -130,19 +104,17 @@ ends_refused a b s result depot depot_now sink sink_now q e (inl (n, inr h)) = s
 
 -- ---- a report or a refusal
 
-module _ (a b : Ask) (depot depot_now : DepotView) (result : Status) (sink sink_now : SinkView) (same : a ≡ b) where
-  pub served_by : (told : Told) (begun now : ℕ) (report : Result Report Status) → IfOk report (λ r. OfHeld told (λ files. Reported files a r.passed r.text begun now)) → IfErr report (λ s. OfHeld told (λ files. Unreported files a s)) →
-      IfErr report (λ s. ReportEnds a s depot depot_now) → IfOk report (λ r. Writes r.text (report_status r.passed) result sink sink_now) → IfErr report (λ s. Refused s result sink sink_now) →
-      OfHeld told (λ files. Served (called b depot depot_now begun now files) result sink sink_now)
-  served_by told begun now (Ok r) reports refused ends w n = served_done told a b depot depot_now begun now r.passed r.text result sink sink_now same reports w
-  served_by told begun now (Err s) reports refused ends w n = served_refused told a b depot depot_now begun now s result sink sink_now same refused ends n
+module _ (a b : Ask) (depot depot_now : DepotView) (result : Status) (sink sink_now : SinkView) (same : a ≡ b) (begun now : ℕ) where
+  pub served_by : (report : Result Report Status) → AnswersAny a depot depot_now begun now report → IfOk report (λ r. Writes r.text (report_status r.passed) result sink sink_now) → IfErr report (λ s. Refused s result sink sink_now) →
+      OfHeld depot_now.told (λ files. Served (called b depot depot_now begun now files) result sink sink_now)
+  served_by (Ok r) h w n = served_done depot_now.told a b depot depot_now begun now r.passed r.text result sink sink_now same (λ files may. h.reports files may tt) w
+  served_by (Err s) h w n = served_refused depot_now.told a b depot depot_now begun now s result sink sink_now same (λ files may. h.refused files may tt) h.ends n
 
-  pub taken_by : (report : Result Report Status) → IfErr report (λ s. ReportEnds a s depot depot_now) → IfOk report (λ r. Writes r.text (report_status r.passed) result sink sink_now) → IfErr report (λ s. Refused s result sink sink_now) →
-      Taken result sink sink_now
-  taken_by (Ok r) ends w n = taken_done r.passed r.text result sink sink_now w
-  taken_by (Err s) ends w n = taken_refused a depot depot_now s result sink sink_now ends n
+  pub taken_by : (report : Result Report Status) → AnswersAny a depot depot_now begun now report → IfOk report (λ r. Writes r.text (report_status r.passed) result sink sink_now) → IfErr report (λ s. Refused s result sink sink_now) → Taken result sink sink_now
+  taken_by (Ok r) h w n = taken_done r.passed r.text result sink sink_now w
+  taken_by (Err s) h w n = taken_refused a depot depot_now s result sink sink_now h.ends n
 
-  pub ends_by : (report : Result Report Status) → IfOk report (λ r. MayReport a.command r.passed) → IfErr report (λ s. ReportEnds a s depot depot_now) → IfOk report (λ r. Writes r.text (report_status r.passed) result sink sink_now) → IfErr report (λ s. Refused s result sink sink_now) →
+  pub ends_by : (report : Result Report Status) → AnswersAny a depot depot_now begun now report → IfOk report (λ r. Writes r.text (report_status r.passed) result sink sink_now) → IfErr report (λ s. Refused s result sink sink_now) →
       Ends b result depot depot_now sink sink_now
-  ends_by (Ok r) form ends w n = ends_done a b r.passed r.text result depot depot_now sink sink_now same form w
-  ends_by (Err s) form ends w n = ends_refused a b s result depot depot_now sink sink_now same ends n
+  ends_by (Ok r) h w n = ends_done a b r.passed r.text result depot depot_now sink sink_now same h.form w
+  ends_by (Err s) h w n = ends_refused a b s result depot depot_now sink sink_now same h.ends n

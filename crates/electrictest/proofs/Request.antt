@@ -1,7 +1,7 @@
 -- What a command with a record begins with, and why it doesn't begin.
-use Rattle.std.proofs.Common.{◌≡◌, ℕ, List, refl, sym, ap, subst, ◌∙◌, arith, All, Option, Some, option_map, Result, Ok, Err, IfSome}
+use Rattle.std.proofs.Common.{◌≡◌, ◌≤◌, ℕ, List, refl, sym, ap, subst, ◌∙◌, arith, All, Option, Some, option_map, Result, Ok, Err, IfSome}
 use Rattle.et_base.specs.Answers as answers
-use Rattle.outside.specs.Depot.{Files, Told, DepotView, OfHeld}
+use Rattle.outside.specs.Depot.{Files, Told, DepotView, OfHeld, TellsOn}
 use Rattle.dep_record.specs.RecordText.{Said}
 use Rattle.suite_load.specs.declared.loaded.Loaded.{Loaded}
 use Rattle.test_run.specs.Running.{IsTest}
@@ -9,11 +9,11 @@ use Rattle.electrictest.specs.{declared.status.Status.Status, declared.status.In
 use Rattle.electrictest.specs.declared.status.Status.TheVariants as ends
 use Rattle.electrictest.specs.declared.status.InputFault.TheVariants as input
 use Rattle.electrictest.specs.declared.words.Command.TheVariants as command
-use Rattle.electrictest.specs.{Records.Beginning, Records.Gives, Records.begun, Records.says, Selections.IsTestOf, Replies.unbegun}
-use Rattle.electrictest.specs.Loads.{IsSuite, named_by, fits_for, begun_by, of_record}
+use Rattle.electrictest.specs.{Records.Beginning, Records.Gives, Records.begun, Records.says, Selections.IsTestOf, Replies.Unreported, Replies.unbegun}
+use Rattle.electrictest.specs.Loads.{IsSuite, LoadsFor, named_by, fits_for, begun_by, of_record}
 use Rattle.electrictest.specs.Causes.{AsksSuch, IsOfRecord, MayRefuse, names_tests, reads_record}
-use Rattle.electrictest.specs.Commands.{Fails, IsNameRefusal, IsProperInput, IsRecordRefusal, ReportEnds, RefusedOver}
-use Rattle.electrictest.proofs.AskedFor.{such_files}
+use Rattle.electrictest.specs.Commands.{AnswersOver, Fails, IsNameRefusal, IsProperInput, IsRecordRefusal, ReportEnds}
+use Rattle.electrictest.proofs.{Answering.refused_by, AskedFor.such_files}
 
 -- the tests of names are tests of the program
 pub tests_are : (l : Loaded) (ts us : List ℕ) → IsSuite l → us ≡ ts → All (IsTestOf l.names) ts → All (IsTest l.checked) us
@@ -26,17 +26,6 @@ begun_as files a l named b e h = ap (option_map (λ n. begun (fits_for a.command
 not_named : (fits : Loaded → Said → Result (Unit {0}) InputFault) (files : Files) (l : Loaded) (name : List ℕ) (f : InputFault) → begun fits files l (Err f) name ≡ Err f
 unfolding begun
 not_named fits files l name f = refl
-
-pub unnamed : (told : Told) (a : Ask) (l : Loaded) (named : Result (List ℕ) InputFault) (s : Status) → named_by a.command a.words l ≡ Some named → answers.Fails (says s) named → IsNameRefusal s → RefusedOver told a l s
-unnamed told a l named ends.NoMemory e g p = λ files may h. tt
-unnamed told a l named (ends.Input f) e g p = λ files may h.
-    unbegun (record { load = h; begins = begun_as files a l named (Err f) e (ap (λ n. begun (fits_for a.command) files l n (word_at a.words 2)) g ∙ not_named (fits_for a.command) files l (word_at a.words 2) f) })
-unnamed told a l named (ends.Depot name) e g p = absurd p
-unnamed told a l named (ends.Over f) e g p = absurd p
-unnamed told a l named ends.Words e g p = absurd p
-unnamed told a l named ends.Done e g p = absurd p
-unnamed told a l named ends.NotPassed e g p = absurd p
-unnamed told a l named ends.Sink e g p = absurd p
 
 -- the command has a record, and where a name is of no test it names tests
 reads_by : (asking : Asking) (words : List (List ℕ)) (l : Loaded) (named : Result (List ℕ) InputFault) → named_by asking words l ≡ Some named → AsksSuch reads_record asking
@@ -59,16 +48,14 @@ names_by (Ok command.Impact) words l f e = absurd (cc)
 names_by (Ok command.Manifest) words l f e = absurd (cc)
 names_by (Ok c) words l f e = (c, refl, refl)
 
-pub unnamed_ends : (a : Ask) (l : Loaded) (named : Result (List ℕ) InputFault) (s : Status) (depot : DepotView) → named_by a.command a.words l ≡ Some named → answers.Fails (says s) named → IsNameRefusal s → ReportEnds a s depot depot
-unnamed_ends a l named ends.NoMemory depot e g p = tt
-unnamed_ends a l named (ends.Input (input.NoTest name)) depot e g p = (names_by a.command a.words l (input.NoTest name) (e ∙ ap Some g), tt)
-unnamed_ends a l named (ends.Input f) depot e g p = absurd p
-unnamed_ends a l named (ends.Depot name) depot e g p = absurd p
-unnamed_ends a l named (ends.Over f) depot e g p = absurd p
-unnamed_ends a l named ends.Words depot e g p = absurd p
-unnamed_ends a l named ends.Done depot e g p = absurd p
-unnamed_ends a l named ends.NotPassed depot e g p = absurd p
-unnamed_ends a l named ends.Sink depot e g p = absurd p
+pub unnamed : (a : Ask) (l : Loaded) (named : Result (List ℕ) InputFault) (s : Status) (depot : DepotView) (steps : ℕ) → named_by a.command a.words l ≡ Some named → answers.Fails (says s) named → IsNameRefusal s → AnswersOver l a depot depot steps steps (Err s)
+unnamed a l named ends.NoMemory depot steps e g p = refused_by (λ files. LoadsFor files a (Ok l)) a depot depot (λ files may. may) (omega arith) steps steps ends.NoMemory (λ files may h. tt) tt
+unnamed a l named (ends.Input (input.NoTest name)) depot steps e g p =
+    let f = input.NoTest name in
+    refused_by (λ files. LoadsFor files a (Ok l)) a depot depot (λ files may. may) (omega arith) steps steps (ends.Input f)
+    (λ files may h. unbegun (record { load = h; begins = begun_as files a l named (Err f) e (ap (λ n. begun (fits_for a.command) files l n (word_at a.words 2)) g ∙ not_named (fits_for a.command) files l (word_at a.words 2) f) }))
+    (names_by a.command a.words l f (e ∙ ap Some g), tt)
+unnamed a l named s depot steps e g p = absurd p
 
 -- what is begun with these tests
 begun_by_tests : (files : Files) (a : Ask) (l : Loaded) (named : Result (List ℕ) InputFault) (tests name : List ℕ) (b : Result Beginning InputFault) {fits : Loaded → Said → Result (Unit {0}) InputFault} → fits_for a.command ≡ fits →
@@ -78,17 +65,14 @@ begun_by_tests files a l named tests name b q e k n g =
     (ap (λ z. begun (fits_for a.command) files l z (word_at a.words 2)) k ∙ (ap (begun (fits_for a.command) files l (Ok tests)) (sym n) ∙ (ap (λ (f : Loaded → Said → Result (Unit {0}) InputFault). begun f files l (Ok tests) name) q ∙ g)))
 
 -- nor where the record is refused
-pub not_begun : (told : Told) (a : Ask) (l : Loaded) (named : Result (List ℕ) InputFault) (tests name : List ℕ) (s : Status) (old new : DepotView) {fits : Loaded → Said → Result (Unit {0}) InputFault} → fits_for a.command ≡ fits →
-    named_by a.command a.words l ≡ Some named → named ≡ Ok tests → name ≡ word_at a.words 2 → OfHeld told (λ files. answers.Fails (says s) (begun fits files l (Ok tests) name)) → Fails name old new s → RefusedOver told a l s
-not_begun told a l named tests name ends.NoMemory old new q e k n g p = λ files may h. tt
-not_begun told a l named tests name (ends.Input f) old new q e k n g p = λ files may h.
+not_begun_of : (told : Told) (a : Ask) (l : Loaded) (named : Result (List ℕ) InputFault) (tests name : List ℕ) (s : Status) (old new : DepotView) {fits : Loaded → Said → Result (Unit {0}) InputFault} → fits_for a.command ≡ fits →
+    named_by a.command a.words l ≡ Some named → named ≡ Ok tests → name ≡ word_at a.words 2 → OfHeld told (λ files. answers.Fails (says s) (begun fits files l (Ok tests) name)) → Fails name old new s →
+    OfHeld told (λ files. LoadsFor files a (Ok l) → Unreported files a s)
+not_begun_of told a l named tests name ends.NoMemory old new q e k n g p = λ files may h. tt
+not_begun_of told a l named tests name (ends.Input f) old new q e k n g p = λ files may h.
     unbegun (record { load = h; begins = begun_by_tests files a l named tests name (Err f) q e k n (g files may) })
-not_begun told a l named tests name (ends.Depot read) old new q e k n g p = λ files may h. of_record l tests h (e ∙ ap Some k) (p.0 ∙ n)
-not_begun told a l named tests name (ends.Over f) old new q e k n g p = absurd p
-not_begun told a l named tests name ends.Words old new q e k n g p = absurd p
-not_begun told a l named tests name ends.Done old new q e k n g p = absurd p
-not_begun told a l named tests name ends.NotPassed old new q e k n g p = absurd p
-not_begun told a l named tests name ends.Sink old new q e k n g p = absurd p
+not_begun_of told a l named tests name (ends.Depot read) old new q e k n g p = λ files may h. of_record l tests h (e ∙ ap Some k) (p.0 ∙ n)
+not_begun_of told a l named tests name s old new q e k n g p = absurd p
 
 record_may : (asking : Asking) (f : InputFault) → AsksSuch reads_record asking → IsOfRecord f → MayRefuse asking f × IsProperInput f
 record_may asking (input.Absent name) h p = (such_files asking h, tt)
@@ -98,26 +82,22 @@ record_may asking input.RecordOld h p = (h, tt)
 record_may asking (input.RecordForeign kept found) h p = (h, tt)
 record_may asking f h p = absurd p
 
-pub not_begun_ends : (a : Ask) (l : Loaded) (named : Result (List ℕ) InputFault) (name : List ℕ) (s : Status) (old new : DepotView) → named_by a.command a.words l ≡ Some named → Fails name old new s → ReportEnds a s old new
+not_begun_ends : (a : Ask) (l : Loaded) (named : Result (List ℕ) InputFault) (name : List ℕ) (s : Status) (old new : DepotView) → named_by a.command a.words l ≡ Some named → Fails name old new s → ReportEnds a s old new
 not_begun_ends a l named name ends.NoMemory old new e p = tt
 not_begun_ends a l named name (ends.Input f) old new e p = record_may a.command f (reads_by a.command a.words l named e) p
 not_begun_ends a l named name (ends.Depot read) old new e p = (such_files a.command (reads_by a.command a.words l named e), p.1)
-not_begun_ends a l named name (ends.Over f) old new e p = absurd p
-not_begun_ends a l named name ends.Words old new e p = absurd p
-not_begun_ends a l named name ends.Done old new e p = absurd p
-not_begun_ends a l named name ends.NotPassed old new e p = absurd p
-not_begun_ends a l named name ends.Sink old new e p = absurd p
+not_begun_ends a l named name s old new e p = absurd p
+
+pub not_begun : (a : Ask) (l : Loaded) (named : Result (List ℕ) InputFault) (tests name : List ℕ) (s : Status) (old new : DepotView) (steps : ℕ) {fits : Loaded → Said → Result (Unit {0}) InputFault} → TellsOn old.told new.told → old.faults ≤ new.faults →
+    fits_for a.command ≡ fits → named_by a.command a.words l ≡ Some named → named ≡ Ok tests → name ≡ word_at a.words 2 → OfHeld new.told (λ files. answers.Fails (says s) (begun fits files l (Ok tests) name)) → Fails name old new s →
+    AnswersOver l a old new steps steps (Err s)
+not_begun a l named tests name s old new steps told faults q e k n g p =
+    refused_by (λ files. LoadsFor files a (Ok l)) a old new told faults steps steps s (not_begun_of new.told a l named tests name s old new q e k n g p) (not_begun_ends a l named name s old new e p)
 
 -- a record that is none, or is of another suite
 pub proper_fails : (name : List ℕ) (s : Status) (old new : DepotView) → IsRecordRefusal s → Fails name old new s
-proper_fails name ends.NoMemory old new p = tt
-proper_fails name (ends.Input f) old new p = p
 proper_fails name (ends.Depot read) old new p = absurd p
-proper_fails name (ends.Over f) old new p = absurd p
-proper_fails name ends.Words old new p = absurd p
-proper_fails name ends.Done old new p = absurd p
-proper_fails name ends.NotPassed old new p = absurd p
-proper_fails name ends.Sink old new p = absurd p
+proper_fails name s old new p = p
 
 -- what is begun
 pub begins : (told : Told) (a : Ask) (l : Loaded) (named : Result (List ℕ) InputFault) (tests name : List ℕ) (b : Beginning) {fits : Loaded → Said → Result (Unit {0}) InputFault} → fits_for a.command ≡ fits →

@@ -31,8 +31,8 @@ module _ {M : Type 0} (world : M → World) (follows : M → Trace → List Touc
   counted_whole = let e = ap units_in r.outcomes ∙ units_alike r.given in let c = r.counted in omega arith
 
 refused_as : (l : Loaded) (f : DetectFault) → IsSuiteFault l.checked f → RunRefused l (passed_units l.names f)
-refused_as l (fault.OverBudget t b) e = (over_budget t b, e, refl)
-refused_as l (fault.OverSuite t) e = (over_suite t, e, refl)
+refused_as l (fault.OverBudget t b) e = record { found = over_budget t b; passes = e; named = refl }
+refused_as l (fault.OverSuite t) e = record { found = over_suite t; passes = e; named = refl }
 refused_as l fault.NoMemory e = tt
 
 -- a suite that is refused, as it is answered

@@ -1,12 +1,12 @@
 -- What the top call promises: its status, the bytes on the sink and the steps (this project's).
-use Rattle.std.specs.Prelude.{◌≡◌, ◌≢◌, ◌⊎◌, ℕ, ◌+◌, ◌-◌, ◌^◌, ◌≤◌, List, length, Bool, true, false, Ok}
+use Rattle.std.specs.Prelude.{◌≡◌, ◌≢◌, ◌⊎◌, ℕ, ◌+◌, ◌-◌, ◌^◌, ◌≤◌, List, length, Bool, true, false, Result, Ok, IfOk, IfErr}
 use Rattle.outside.specs.{Counts.Rose, Sink.SinkView, Sink.TookPrefix, Sink.appended, Sink.HasRoom}
-use Rattle.outside.specs.Depot.{Files, Told, DepotView, FailedAt, OfHeld}
+use Rattle.outside.specs.Depot.{Files, DepotView, FailedAt, OfHeld, TellsOn}
 use Rattle.class_reader.specs.declared.fault.ClassFault.TheVariants as class
 use Rattle.class_link.specs.declared.fault.LinkFault.TheVariants as linking
 use Rattle.type_frames.specs.declared.fault.CheckFault.TheVariants as checking
 use Rattle.suite_load.specs.declared.loaded.Loaded.{Loaded}
-use Rattle.electrictest.specs.{declared.status.InputFault.InputFault, declared.status.Status.Status, Words.Ask, Words.unformed, Loads.LoadsFor}
+use Rattle.electrictest.specs.{declared.reports.Report.Report, declared.status.InputFault.InputFault, declared.status.Status.Status, Begun.AreCounted, Loads.LoadsFor, Words.Ask, Words.unformed}
 use Rattle.electrictest.specs.declared.status.InputFault.TheVariants as input
 use Rattle.electrictest.specs.declared.status.Status.TheVariants as ends
 use Rattle.electrictest.specs.Causes.{AsksSuch, MayRefuse, MayReport, IsOfName, IsOfRecord, reads_files, runs_tests}
@@ -56,18 +56,24 @@ report_status true = ends.Done
 report_status false = ends.NotPassed
 
 -- the steps of a report rise by the units of its tests
-pub record Reported (files : Files) (a : Ask) (passed : Bool) (text : List ℕ) (begun now : ℕ) : Type 0 where
-  pub units : ℕ
-  pub report : Reports files a passed text units
-  pub steps : now ≡ begun + units
+abbrev pub Reported : Files → Ask → Bool → List ℕ → ℕ → ℕ → Type 0
+Reported files a passed text begun now = AreCounted (Reports files a passed text) begun now
 
--- What a command over a loaded suite answers, of whichever files the depot may hold that have this suite: a text, or why there
--- is none.
-abbrev pub ReportsOver : Told → Ask → Loaded → Bool → List ℕ → ℕ → ℕ → Type 0
-ReportsOver told a l passed text begun now = OfHeld told (λ files. LoadsFor files a (Ok l) → Reported files a passed text begun now)
+-- What is answered, of whichever files the depot may hold of which this holds: a text, or why there is none.
+pub record Answers (Holds : Files → Type 0) (a : Ask) (old new : DepotView) (begun now : ℕ) (result : Result Report Status) : Type 0 where
+  pub told : TellsOn old.told new.told
+  pub faults : old.faults ≤ new.faults
+  pub reports : IfOk result (λ r. OfHeld new.told (λ files. Holds files → Reported files a r.passed r.text begun now))
+  pub refused : IfErr result (λ s. OfHeld new.told (λ files. Holds files → Unreported files a s))
+  pub form : IfOk result (λ r. MayReport a.command r.passed)
+  pub ends : IfErr result (λ s. ReportEnds a s old new)
 
-abbrev pub RefusedOver : Told → Ask → Loaded → Status → Type 0
-RefusedOver told a l s = OfHeld told (λ files. LoadsFor files a (Ok l) → Unreported files a s)
+-- by a command over a loaded suite, where the files have this suite; and by any command, whatever the files
+abbrev pub AnswersOver : Loaded → Ask → DepotView → DepotView → ℕ → ℕ → Result Report Status → Type 0
+AnswersOver l a = Answers (λ files. LoadsFor files a (Ok l)) a
+
+abbrev pub AnswersAny : Ask → DepotView → DepotView → ℕ → ℕ → Result Report Status → Type 0
+AnswersAny a = Answers (λ files. Unit {0}) a
 
 -- the text was taken; where a told room holds it, the count of faults stood still
 pub record Whole (text : List ℕ) (old new : SinkView) : Type 0 where

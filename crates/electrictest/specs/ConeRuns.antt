@@ -1,5 +1,5 @@
 -- What each selected test gives alone after what it needs, by a loaded suite and what it begins with (this project's).
-use Rattle.std.specs.Prelude.{◌≡◌, ℕ, ◌+◌, List, [], sum_by, Bool, Ok}
+use Rattle.std.specs.Prelude.{◌≡◌, ℕ, List, [], sum_by, Bool}
 use Rattle.std.specs.List.{list_all}
 use Rattle.jvm_model.specs.{State.test_at, Texts.is_passed}
 use Rattle.order_law.specs.Conflicts.{Member}
@@ -9,9 +9,8 @@ use Rattle.outside.specs.Depot.{Files}
 use Rattle.selection_close.specs.Closed.{IsAscendingOf}
 use Rattle.suite_load.specs.declared.loaded.Loaded.{Loaded}
 use Rattle.electrictest.specs.declared.status.{Status.Status, OverFault.OverFault}
-use Rattle.electrictest.specs.declared.status.Status.TheVariants as ends
 use Rattle.electrictest.specs.declared.status.OverFault.TheVariants as over
-use Rattle.electrictest.specs.{Loads.Begins, PoolRuns.IsOfSuite, Records.Beginning, TestNames.test_name, Words.Ask}
+use Rattle.electrictest.specs.{Begun.OfBegun, Begun.OnlyOver, Records.Beginning, TestNames.test_name, Words.Ask}
 
 -- The report on the selected tests, each once and in suite order: a piece for each, of a run of exactly its cone.
 pub record IsConeReport (l : Loaded) (b : Beginning) (passed : Bool) (text : List ℕ) (units : ℕ) : Type 0 where
@@ -31,25 +30,9 @@ pub record IsOverCone (l : Loaded) (b : Beginning) (S : ℕ → Type 0) (f : Ove
 
 -- how the cones of a set are refused; or want of memory
 abbrev pub ConesRefused : Loaded → Beginning → (ℕ → Type 0) → Status → Type 0
-ConesRefused l b S ends.NoMemory = Unit {0}
-ConesRefused l b S (ends.Over f) = IsOverCone l b S f
-ConesRefused l b S _ = ⊥
-
--- a report of some units, and they are counted
-pub record AreCounted (IsReport : ℕ → Type 0) (begun now : ℕ) : Type 0 where
-  pub units : ℕ
-  pub report : IsReport units
-  pub counts : now ≡ begun + units
+ConesRefused l b S = OnlyOver (IsOverCone l b S)
 
 -- ---- by what is asked
-
--- What is begun is of the suite, and this is so of it.
-pub record OfBegun (Is : Loaded → Beginning → Type 0) (files : Files) (a : Ask) : Type 0 where
-  pub loaded : Loaded
-  pub beginning : Beginning
-  pub begins : Begins files a loaded (Ok beginning)
-  pub suite : IsOfSuite loaded beginning
-  pub is : Is loaded beginning
 
 abbrev pub IsConed : Files → Ask → Bool → List ℕ → ℕ → Type 0
 IsConed files a passed text units = OfBegun (λ l b. IsConeReport l b passed text units) files a

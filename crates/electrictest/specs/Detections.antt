@@ -1,12 +1,12 @@
 -- What is written of a detection run: the record, and the reports on dependences (this project's).
-use Rattle.std.specs.Prelude.{◌≡◌, ℕ, ◌+◌, List, length, sum, Bool, true, false, Ok}
+use Rattle.std.specs.Prelude.{◌≡◌, ℕ, List, length, sum, Bool, true, false}
 use Rattle.jvm_model.specs.declared.program.Names.{Names}
 use Rattle.dep_graph.specs.declared.detected.Detected.{Detected}
 use Rattle.dep_record.specs.{RecordText.record_text, DepsText.deps_text, DepsJson.deps_json}
 use Rattle.detect_run.specs.Detection.{IsDetection}
 use Rattle.outside.specs.Depot.{Files}
 use Rattle.suite_load.specs.declared.loaded.Loaded.{Loaded}
-use Rattle.electrictest.specs.{Words.Ask, Loads.LoadsFor}
+use Rattle.electrictest.specs.{Begun.OfLoaded, Words.Ask}
 
 -- the text of its record, and that of its dependences, as JSON or not
 abbrev pub recorded : Names → Detected → List ℕ
@@ -25,13 +25,5 @@ pub record IsFound (l : Loaded) (write : Names → Detected → List ℕ) (passe
   pub counts : units ≡ sum found.kept.units
 
 -- the same of the suite that is asked for
-pub record IsDetected (files : Files) (a : Ask) (write : Names → Detected → List ℕ) (passed : Bool) (text : List ℕ) (units : ℕ) : Type 0 where
-  pub loaded : Loaded
-  pub load : LoadsFor files a (Ok loaded)
-  pub finds : IsFound loaded write passed text units
-
--- it was found, and its units are counted
-pub record Finds (l : Loaded) (write : Names → Detected → List ℕ) (passed : Bool) (text : List ℕ) (begun now : ℕ) : Type 0 where
-  pub units : ℕ
-  pub finds : IsFound l write passed text units
-  pub steps : now ≡ begun + units
+abbrev pub IsDetected : Files → Ask → (Names → Detected → List ℕ) → Bool → List ℕ → ℕ → Type 0
+IsDetected files a write passed text units = OfLoaded (λ l. IsFound l write passed text units) files a

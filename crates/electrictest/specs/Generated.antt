@@ -8,7 +8,7 @@ use Rattle.order_law.specs.{declared.records.Record.Record, Reach.IsRecordOf}
 use Rattle.suite_gen.specs.Generated.{group_count}
 use Rattle.suite_load.specs.declared.loaded.Loaded.{Loaded}
 use Rattle.test_run.specs.{declared.tallies.Tally.Tally, Tallies.IsCount}
-use Rattle.electrictest.specs.{declared.recorded.Request.Request, PoolRuns.IsPoolRan, PoolRuns.outcomes, Records.Beginning}
+use Rattle.electrictest.specs.{declared.recorded.Request.Request, Begun.AreCounted, PoolRuns.IsPoolRan, PoolRuns.outcomes, Records.Beginning}
 
 -- ---- the text
 
@@ -80,7 +80,5 @@ pub record IsSummed (l : Loaded) (b : Beginning) (kept : Record) (tests workers 
   pub reports : text ≡ summary_by tests workers kept (length ran.chains) tally
 
 -- there is a summary, and its units are counted
-pub record Sums (k workers : ℕ) (passed : Bool) (text : List ℕ) (begun now : ℕ) : Type 0 where
-  pub units : ℕ
-  pub summary : IsSummary k workers passed text units
-  pub steps : now ≡ begun + units
+abbrev pub Sums : ℕ → ℕ → Bool → List ℕ → ℕ → ℕ → Type 0
+Sums k workers passed text begun now = AreCounted (IsSummary k workers passed text) begun now

@@ -3,7 +3,7 @@ use Rattle.std.specs.Prelude.{◌≡◌, ℕ, List, length, Bool, true}
 use Rattle.cone_run.specs.{declared.marks.Mark.Mark, ManifestText.manifest_text, Marks.AreMarks, Marks.AreUnits, Marks.HasWriter}
 use Rattle.outside.specs.Depot.{Files}
 use Rattle.suite_load.specs.declared.loaded.Loaded.{Loaded}
-use Rattle.electrictest.specs.{declared.status.OverFault.OverFault, ConeRuns.IsOverCone, ConeRuns.OfBegun, Records.Beginning, Words.Ask}
+use Rattle.electrictest.specs.{declared.status.OverFault.OverFault, ConeRuns.IsOverCone, Begun.OfBegun, Records.Beginning, Words.Ask}
 
 -- The manifest of the record: the mark of each raw edge, in its order; whatever the marks are, it is done.
 pub record IsManifest (l : Loaded) (b : Beginning) (passed : Bool) (text : List ℕ) (units : ℕ) : Type 0 where

@@ -1,5 +1,5 @@
 -- What an order gives, by a loaded suite and what it begins with (this project's).
-use Rattle.std.specs.Prelude.{◌≡◌, ℕ, ◌+◌, nat_eq, List, [], ◌∷◌, length, map, filter, flat_map, true, Bool, Some, None, Ok}
+use Rattle.std.specs.Prelude.{◌≡◌, ℕ, nat_eq, List, [], ◌∷◌, length, map, filter, flat_map, true, Bool, Some, None}
 use Rattle.std.specs.List.{list_all, range_with_len}
 use Rattle.jvm_model.specs.{declared.outcome.Outcome.Outcome, declared.program.Names.Names, State.test_at, Texts.is_passed, Texts.report_on}
 use Rattle.jvm_model.specs.Suite.{Given, runs, first_over, is_detected}
@@ -10,7 +10,7 @@ use Rattle.suite_load.specs.declared.loaded.Loaded.{Loaded}
 use Rattle.electrictest.specs.declared.status.{InputFault.InputFault, OverFault.OverFault}
 use Rattle.electrictest.specs.declared.status.InputFault.TheVariants as input
 use Rattle.electrictest.specs.declared.status.OverFault.TheVariants as over
-use Rattle.electrictest.specs.{Words.Ask, Records.Beginning, Loads.Begins, PoolRuns.IsOfSuite, TestNames.test_name, TestNames.units_in}
+use Rattle.electrictest.specs.{Begun.IsOfSuite, Begun.OfBegun, Words.Ask, Records.Beginning, TestNames.test_name, TestNames.units_in}
 
 -- the tests of a list with their outcomes
 abbrev pub paired : List ℕ → List Outcome → List (ℕ × Outcome)
@@ -58,12 +58,6 @@ pub record IsOrderReport (l : Loaded) (b : Beginning) (passed : Bool) (text : Li
   pub reports : text ≡ order_report l.names b.tests (map (λ x. x.outcome) given)
   pub sum : units ≡ units_in (map (λ x. x.outcome) given)
 
--- the report, and its units are counted
-pub record Reports (l : Loaded) (b : Beginning) (passed : Bool) (text : List ℕ) (begun now : ℕ) : Type 0 where
-  pub units : ℕ
-  pub report : IsOrderReport l b passed text units
-  pub counts : now ≡ begun + units
-
 -- With the edges that the suite's own run gives, each test of a lawful order has the outcome that it has in the suite's order.
 abbrev pub OwnOrders : Type 0
 OwnOrders = (l : Loaded) (b : Beginning) (passed : Bool) (text : List ℕ) (units : ℕ) → IsOfSuite l b → is_detected l.checked ≡ true → b.said.edges ≡ edges_of l.checked →
@@ -72,17 +66,9 @@ OwnOrders = (l : Loaded) (b : Beginning) (passed : Bool) (text : List ℕ) (unit
 -- ---- by what is asked
 
 -- the report on an order
-pub record IsOrdered (files : Files) (a : Ask) (passed : Bool) (text : List ℕ) (units : ℕ) : Type 0 where
-  pub loaded : Loaded
-  pub beginning : Beginning
-  pub begins : Begins files a loaded (Ok beginning)
-  pub suite : IsOfSuite loaded beginning
-  pub report : IsOrderReport loaded beginning passed text units
+abbrev pub IsOrdered : Files → Ask → Bool → List ℕ → ℕ → Type 0
+IsOrdered files a passed text units = OfBegun (λ l b. IsOrderReport l b passed text units) files a
 
 -- a test of an order that passes its budget
-pub record IsOrderedOver (files : Files) (a : Ask) (f : OverFault) : Type 0 where
-  pub loaded : Loaded
-  pub beginning : Beginning
-  pub begins : Begins files a loaded (Ok beginning)
-  pub suite : IsOfSuite loaded beginning
-  pub over : IsOverOrder loaded beginning f
+abbrev pub IsOrderedOver : Files → Ask → OverFault → Type 0
+IsOrderedOver files a f = OfBegun (λ l b. IsOverOrder l b f) files a

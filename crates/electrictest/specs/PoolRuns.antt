@@ -1,8 +1,8 @@
 -- What a run of a selection on workers gives, by a loaded suite and what it begins with (this project's).
-use Rattle.std.specs.Prelude.{◌≡◌, ℕ, ◌+◌, List, [], ◌∷◌, ◌++◌, length, map, Bool, true, cond, Some, Ok}
+use Rattle.std.specs.Prelude.{◌≡◌, ℕ, List, [], ◌∷◌, ◌++◌, length, map, Bool, true, cond, Some}
 use Rattle.std.specs.List.{list_all}
-use Rattle.jvm_model.specs.{declared.outcome.Outcome.Outcome, Linked.Linked, State.test_at, Suite.seq, Suite.is_detected, Texts.is_passed, Texts.report_on}
-use Rattle.order_law.specs.{Conflicts.Member, Histories.IsTestNumber, OwnRecord.edges_of}
+use Rattle.jvm_model.specs.{declared.outcome.Outcome.Outcome, State.test_at, Suite.seq, Suite.is_detected, Texts.is_passed, Texts.report_on}
+use Rattle.order_law.specs.{Conflicts.Member, OwnRecord.edges_of}
 use Rattle.order_law.specs.Plan.{Event, Legal, IsComplete, IsWholeThenPart, AreListedChainsOf}
 use Rattle.run_core.specs.Run.{Gave}
 use Rattle.worker_pool.specs.Plans.{GivesNone}
@@ -10,9 +10,8 @@ use Rattle.outside.specs.Depot.{Files}
 use Rattle.selection_close.specs.Closed.{IsClosure, IsAscendingOf}
 use Rattle.suite_load.specs.declared.loaded.Loaded.{Loaded}
 use Rattle.electrictest.specs.declared.status.{Status.Status, OverFault.OverFault}
-use Rattle.electrictest.specs.declared.status.Status.TheVariants as ends
 use Rattle.electrictest.specs.declared.status.OverFault.TheVariants as over
-use Rattle.electrictest.specs.{Loads.Begins, Logs.log_text, Records.Beginning, TestNames.test_name, TestNames.units_in, Words.Ask}
+use Rattle.electrictest.specs.{Begun.IsOfSuite, Begun.OfBegun, Begun.OnlyOver, Logs.log_text, Records.Beginning, TestNames.test_name, TestNames.units_in, Words.Ask}
 
 -- the tests of a list, each with the outcome that a history has of it
 abbrev pub AreGiven : List Event → List ℕ → List (ℕ × Outcome) → Type 0
@@ -64,38 +63,17 @@ pub record IsOverPool (l : Loaded) (b : Beginning) (f : OverFault) : Type 0 wher
   pub none : GivesNone l.checked list test
   pub named : f ≡ over.OverBudget (test_name l.names test) (test_at l.checked test).budget list
 
--- the report, and its units are counted
-pub record PoolReports (l : Loaded) (b : Beginning) (workers : ℕ) (log passed : Bool) (text : List ℕ) (begun now : ℕ) : Type 0 where
-  pub units : ℕ
-  pub report : IsPoolReport l b workers log passed text units
-  pub counts : now ≡ begun + units
-
 -- a run that is refused: want of memory, or a test that passes its budget
 abbrev pub PoolRefused : Loaded → Beginning → Status → Type 0
-PoolRefused l b ends.NoMemory = Unit {0}
-PoolRefused l b (ends.Over f) = IsOverPool l b f
-PoolRefused l b _ = ⊥
+PoolRefused l b = OnlyOver (IsOverPool l b)
 
 -- ---- by what is asked
 
--- What is begun is of the suite: its program is linked, and the tests that are named are its tests.
-pub record IsOfSuite (l : Loaded) (b : Beginning) : Type 0 where
-  pub linked : Linked l.checked
-  pub tests : (t : ℕ) → Member t b.tests → IsTestNumber l.checked t
+abbrev pub IsPoolRun : Files → Ask → ℕ → Bool → Bool → List ℕ → ℕ → Type 0
+IsPoolRun files a workers log passed text units = OfBegun (λ l b. IsPoolReport l b workers log passed text units) files a
 
-pub record IsPoolRun (files : Files) (a : Ask) (workers : ℕ) (log passed : Bool) (text : List ℕ) (units : ℕ) : Type 0 where
-  pub loaded : Loaded
-  pub beginning : Beginning
-  pub begins : Begins files a loaded (Ok beginning)
-  pub suite : IsOfSuite loaded beginning
-  pub report : IsPoolReport loaded beginning workers log passed text units
-
-pub record IsPoolOver (files : Files) (a : Ask) (f : OverFault) : Type 0 where
-  pub loaded : Loaded
-  pub beginning : Beginning
-  pub begins : Begins files a loaded (Ok beginning)
-  pub suite : IsOfSuite loaded beginning
-  pub over : IsOverPool loaded beginning f
+abbrev pub IsPoolOver : Files → Ask → OverFault → Type 0
+IsPoolOver files a f = OfBegun (λ l b. IsOverPool l b f) files a
 
 -- ---- the suite's own record
 

@@ -1,14 +1,9 @@
 -- The report on quiet classes (this project's).
-use Rattle.std.specs.Prelude.{◌≡◌, ℕ, List, Bool, true, Ok}
+use Rattle.std.specs.Prelude.{◌≡◌, ℕ, List, Bool, true}
 use Rattle.outside.specs.Depot.{Files}
 use Rattle.quiet_init.specs.QuietText.{quiet_text}
-use Rattle.suite_load.specs.declared.loaded.Loaded.{Loaded}
-use Rattle.electrictest.specs.{Words.Ask, Loads.LoadsFor}
+use Rattle.electrictest.specs.{Begun.OfLoaded, Words.Ask}
 
 -- the text names the quiet classes of the suite that is loaded; no test is run
-pub record IsQuietList (files : Files) (a : Ask) (passed : Bool) (text : List ℕ) (units : ℕ) : Type 0 where
-  pub loaded : Loaded
-  pub load : LoadsFor files a (Ok loaded)
-  pub lines : text ≡ quiet_text loaded.checked
-  pub all : passed ≡ true
-  pub none : units ≡ 0
+abbrev pub IsQuietList : Files → Ask → Bool → List ℕ → ℕ → Type 0
+IsQuietList files a passed text units = OfLoaded (λ l. (text ≡ quiet_text l.checked) × (passed ≡ true) × (units ≡ 0)) files a

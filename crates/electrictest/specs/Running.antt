@@ -1,13 +1,12 @@
 -- The whole suite run in order, and lists of tests.
-use Rattle.std.specs.Prelude.{◌≡◌, ℕ, ◌+◌, ◌≤◌, List, [], length, map, Bool, Some, None}
-use Rattle.std.specs.List.{list_all}
-use Rattle.jvm_model.specs.{declared.outcome.Outcome.Outcome, Texts.is_passed, State.test_at}
-use Rattle.jvm_model.specs.Suite.{Given, SuiteFault, suite_fault, runs, first_over}
+use Rattle.std.specs.Prelude.{◌≡◌, ℕ, ◌+◌, ◌≤◌, List, [], length, map, Some, None}
+use Rattle.jvm_model.specs.{declared.outcome.Outcome.Outcome, State.test_at}
+use Rattle.jvm_model.specs.Suite.{Given, suite_fault, runs, first_over}
 use Rattle.suite_load.specs.declared.loaded.Loaded.{Loaded}
-use Rattle.electrictest.specs.{declared.status.Status.Status, Orders.IsUnlawful, Orders.IsOverOrder, Records.Beginning, TestNames.test_name, TestNames.units_in}
+use Rattle.electrictest.specs.{declared.status.Status.Status, Begun.OnlyOver, Orders.IsUnlawful, Orders.IsOverOrder, Records.Beginning, TestNames.test_name, TestNames.units_in}
 use Rattle.electrictest.specs.declared.status.Status.TheVariants as ends
 use Rattle.electrictest.specs.declared.status.OverFault.TheVariants as over
-use Rattle.electrictest.specs.Wholes.{over_fault, outcomes_of, report}
+use Rattle.electrictest.specs.Wholes.{IsOverWhole, outcomes_of}
 
 -- the run of a whole suite that is within its limits
 pub record Ran (l : Loaded) (outcomes : List Outcome) : Type 0 where
@@ -17,9 +16,7 @@ pub record Ran (l : Loaded) (outcomes : List Outcome) : Type 0 where
 
 -- a run that is refused: want of memory, or the suite's fault
 abbrev pub RunRefused : Loaded → Status → Type 0
-RunRefused l ends.NoMemory = Unit {0}
-RunRefused l (ends.Over f) = (x : SuiteFault) × (suite_fault l.checked ≡ Some x) × (f ≡ over_fault l.names x)
-RunRefused l _ = ⊥
+RunRefused l = OnlyOver (IsOverWhole l)
 
 -- ---- the tests of a list
 
@@ -33,9 +30,7 @@ pub record RanInOrder (l : Loaded) (tests : List ℕ) (begun now : ℕ) (outcome
 
 -- a run that is refused: want of memory, or the first test that passes its budget
 abbrev pub ListRefused : Loaded → List ℕ → Status → Type 0
-ListRefused l tests ends.NoMemory = Unit {0}
-ListRefused l tests (ends.Over f) = (t : ℕ) × (first_over l.checked tests ≡ Some t) × (f ≡ over.OverBudget (test_name l.names t) (test_at l.checked t).budget [])
-ListRefused l tests _ = ⊥
+ListRefused l tests = OnlyOver (λ f. (t : ℕ) × (first_over l.checked tests ≡ Some t) × (f ≡ over.OverBudget (test_name l.names t) (test_at l.checked t).budget []))
 
 -- an order that is refused: want of memory, an order that isn't lawful, or a test of a lawful one that passes its budget
 abbrev pub OrderRefused : Loaded → Beginning → Status → Type 0
@@ -43,13 +38,3 @@ OrderRefused l b ends.NoMemory = Unit {0}
 OrderRefused l b (ends.Input f) = IsUnlawful l b f
 OrderRefused l b (ends.Over f) = IsOverOrder l b f
 OrderRefused l b _ = ⊥
-
--- ---- the whole suite
-
--- the report on it, and its units are counted
-pub record WholeReports (l : Loaded) (passed : Bool) (text : List ℕ) (begun now : ℕ) : Type 0 where
-  pub outcomes : List Outcome
-  pub ran : Ran l outcomes
-  pub verdicts : list_all is_passed outcomes ≡ passed
-  pub reports : text ≡ report l.names outcomes
-  pub counts : now ≡ begun + units_in outcomes

@@ -1,11 +1,11 @@
 -- What a run of the whole suite gives (this project's).
-use Rattle.std.specs.Prelude.{◌≡◌, ℕ, ◌+◌, List, [], ◌∷◌, length, map, Bool, Option, Some, None, option_map, Ok}
+use Rattle.std.specs.Prelude.{◌≡◌, ℕ, ◌+◌, List, [], ◌∷◌, length, map, Bool, Option, Some, None, option_map}
 use Rattle.std.specs.List.{list_all}
 use Rattle.jvm_model.specs.{declared.outcome.Outcome.Outcome, declared.program.Names.Names, declared.program.Program.Program, Texts.is_passed, Texts.report_on}
 use Rattle.jvm_model.specs.Suite.{SuiteFault, over_budget, over_suite, runs, all_tests, suite_fault}
 use Rattle.outside.specs.Depot.{Files}
 use Rattle.suite_load.specs.declared.loaded.Loaded.{Loaded}
-use Rattle.electrictest.specs.{declared.status.OverFault.OverFault, Words.Ask, Loads.LoadsFor, TestNames.test_name, TestNames.units_in}
+use Rattle.electrictest.specs.{declared.status.OverFault.OverFault, Begun.OfLoaded, Words.Ask, TestNames.test_name, TestNames.units_in}
 use Rattle.electrictest.specs.declared.status.OverFault.TheVariants as over
 
 -- the outcomes of the whole suite in order on one heap
@@ -27,20 +27,24 @@ abbrev pub report : Names → List Outcome → List ℕ
 report names os = report_on names (length os) None (numbered 1 os)
 
 -- a report on these outcomes
-pub record IsReport (files : Files) (a : Ask) (passed : Bool) (text : List ℕ) (units : ℕ) : Type 0 where
-  pub loaded : Loaded
+pub record IsWholeReport (l : Loaded) (passed : Bool) (text : List ℕ) (units : ℕ) : Type 0 where
   pub outcomes : List Outcome
-  pub load : LoadsFor files a (Ok loaded)
-  pub within : suite_fault loaded.checked ≡ None
-  pub ran : outcomes_of loaded.checked ≡ Some outcomes
+  pub within : suite_fault l.checked ≡ None
+  pub ran : outcomes_of l.checked ≡ Some outcomes
   pub verdicts : list_all is_passed outcomes ≡ passed
-  pub reports : text ≡ report loaded.names outcomes
+  pub reports : text ≡ report l.names outcomes
   pub sum : units ≡ units_in outcomes
 
 -- a suite that passes a number of units
-pub record IsOver (files : Files) (a : Ask) (f : OverFault) : Type 0 where
-  pub loaded : Loaded
+pub record IsOverWhole (l : Loaded) (f : OverFault) : Type 0 where
   pub found : SuiteFault
-  pub load : LoadsFor files a (Ok loaded)
-  pub passes : suite_fault loaded.checked ≡ Some found
-  pub named : f ≡ over_fault loaded.names found
+  pub passes : suite_fault l.checked ≡ Some found
+  pub named : f ≡ over_fault l.names found
+
+-- ---- by what is asked
+
+abbrev pub IsReport : Files → Ask → Bool → List ℕ → ℕ → Type 0
+IsReport files a passed text units = OfLoaded (λ l. IsWholeReport l passed text units) files a
+
+abbrev pub IsOver : Files → Ask → OverFault → Type 0
+IsOver files a f = OfLoaded (λ l. IsOverWhole l f) files a

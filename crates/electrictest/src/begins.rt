@@ -1,10 +1,10 @@
 //! What a command with a record of the suite begins with.
 
-ghost use Rattle.std.specs.Prelude.{◌≡◌, ◌≤◌, All, Ok, IfOk, IfErr, IfSome, Some, length};
+ghost use Rattle.std.specs.Prelude.{◌≡◌, ◌≤◌, ℕ, All, Ok, Err, IfOk, IfErr, IfSome, Some, length};
 ghost use Rattle.outside.specs.Depot.{OfHeld, TellsOn};
-ghost use Rattle.electrictest.specs.Commands.{IsNameRefusal, ReportEnds, RefusedOver};
+ghost use Rattle.electrictest.specs.Commands.{AnswersOver, IsNameRefusal};
 ghost use Rattle.electrictest.specs.Loads.{IsSuite, NamesTests, begun_by, named_by};
-ghost use Rattle.electrictest.specs.{PoolRuns.IsOfSuite, Records.Gives, Records.beginning, Selections.IsTestOf};
+ghost use Rattle.electrictest.specs.{Begun.IsOfSuite, Records.Gives, Records.beginning, Selections.IsTestOf};
 ghost use Rattle.schedule_plan.specs.Plans.{HasUnits};
 ghost use Rattle.test_run.specs.Running.{IsTest};
 
@@ -54,9 +54,8 @@ pub fn begin<D: Depot>(
     ensures tests { IfOk result (λ b. All (IsTest loaded.now.checked) b.tests) }
     ensures units { IfOk result (λ b. HasUnits b.tests b.record.units) }
     ensures many { IfOk result (λ b. length b.record.units ≡ length loaded.now.checked.tests) }
-    ensures refused { IfErr result (λ s. RefusedOver (D.shown depot.new).told ask.now loaded.now s) }
-    ensures ends { IfErr result (λ s.
-        ReportEnds ask.now s (D.shown depot.old) (D.shown depot.new)) }
+    ensures refused { (steps : ℕ) → IfErr result (λ s. let depot_now = D.shown depot.new in
+        AnswersOver loaded.now ask.now (D.shown depot.old) depot_now steps steps (Err s)) }
 {
     let tests = named(alloc, loaded, ask)?;
     let begun = begin_with(alloc, depot, loaded, tests, ask.record())?;

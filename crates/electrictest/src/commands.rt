@@ -2,12 +2,11 @@
 
 ghost use Rattle.std.specs.Prelude.{◌≡◌, ◌≤◌, None, IfOk, IfErr};
 ghost use Rattle.outside.specs.Depot.{OfHeld, TellsOn};
-ghost use Rattle.electrictest.specs.{Causes.MayReport, Complete.Complete, EagerForms.EagerAnswer, EarlierRecords.EarlierAnswer, Loads.IsSuite};
-ghost use Rattle.electrictest.specs.Commands.{called, ReportEnds, Reported, ReportsOver, RefusedOver, Writes, Refused, Taken, Served, Ends};
+ghost use Rattle.electrictest.specs.{Complete.Complete, EagerForms.EagerAnswer, EarlierRecords.EarlierAnswer, Loads.IsSuite};
+ghost use Rattle.electrictest.specs.Commands.{called, AnswersAny, AnswersOver, Writes, Refused, Taken, Served, Ends};
 ghost use Rattle.electrictest.specs.{OwnCones.OwnManifestAnswer, OwnLists.DetectedOrderAnswer, OwnLists.OwnOrderAnswer};
 ghost use Rattle.electrictest.specs.Words.{plain, refusal_of, IsServed};
 ghost use Rattle.electrictest.specs.Commands as command;
-ghost use Rattle.electrictest.specs.Replies as reply;
 
 use crate::asks::Ask;
 use crate::detections::{deps_for, record_for};
@@ -50,15 +49,8 @@ pub fn report_for<D: Depot, L: Ledger>(
     requires form { refusal_of ask.now.command ≡ None }
     requires served { IsServed ask.now.command }
     requires suite { IsSuite loaded.now }
-    ensures told { TellsOn (D.shown depot.old).told (D.shown depot.new).told }
-    ensures faults { (D.shown depot.old).faults ≤ (D.shown depot.new).faults }
-    ensures reports { IfOk result (λ r. let told = (D.shown depot.new).told in
-        ReportsOver told ask.now loaded.now r.passed r.text steps.old steps.new) }
-    ensures refused { IfErr result (λ s.
-        RefusedOver (D.shown depot.new).told ask.now loaded.now s) }
-    ensures form { IfOk result (λ r. MayReport ask.now.command r.passed) }
-    ensures ends { IfErr result (λ s.
-        ReportEnds ask.now s (D.shown depot.old) (D.shown depot.new)) }
+    ensures { let depot_now = D.shown depot.new in
+        AnswersOver loaded.now ask.now (D.shown depot.old) depot_now steps.old steps.new result }
 {
     match ask.command() {
         Ok(Command::Detect) => record_for(alloc, loaded, steps),
@@ -80,15 +72,7 @@ fn reported<D: Depot, L: Ledger>(
     steps: &mut Steps<L>,
 ) -> Result<Report, Status>
     requires served { IsServed ask.now.command }
-    ensures told { TellsOn (D.shown depot.old).told (D.shown depot.new).told }
-    ensures faults { (D.shown depot.old).faults ≤ (D.shown depot.new).faults }
-    ensures reports { IfOk result (λ r. OfHeld (D.shown depot.new).told (λ files.
-        Reported files ask.now r.passed r.text steps.old steps.new)) }
-    ensures refused { IfErr result (λ s. OfHeld (D.shown depot.new).told (λ files.
-        reply.Unreported files ask.now s)) }
-    ensures form { IfOk result (λ r. MayReport ask.now.command r.passed) }
-    ensures ends { IfErr result (λ s.
-        ReportEnds ask.now s (D.shown depot.old) (D.shown depot.new)) }
+    ensures { AnswersAny ask.now (D.shown depot.old) (D.shown depot.new) steps.old steps.new result }
 {
     let loaded = load_for(alloc, ask, depot)?;
     report_for(alloc, &loaded, ask, depot, steps)

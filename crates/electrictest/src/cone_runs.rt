@@ -1,11 +1,9 @@
 //! Selected tests, each alone after what it needs.
 
 ghost use Rattle.std.specs.Prelude.{◌≡◌, ◌<◌, ◌≤◌, All, Ok, length, IfOk, IfErr};
-ghost use Rattle.outside.specs.Depot.{TellsOn};
 ghost use Rattle.order_law.specs.Conflicts.{Member};
 ghost use Rattle.test_run.specs.Running.{IsTest};
-ghost use Rattle.electrictest.specs.{Causes.MayReport, Loads.IsSuite, Records.beginning, Commands.ReportEnds, Commands.ReportsOver, Commands.RefusedOver};
-ghost use Rattle.electrictest.specs.ConeRuns.{AreCounted, ConesRefused, IsConeReport};
+ghost use Rattle.electrictest.specs.{Begun.AreCounted, Commands.AnswersOver, ConeRuns.ConesRefused, ConeRuns.IsConeReport, Loads.IsSuite, Records.beginning};
 ghost use Rattle.electrictest.specs.declared.words.Command.TheVariants as command;
 
 use crate::asks::Ask;
@@ -89,14 +87,8 @@ pub fn cones_for<R: Threads + Wait + Sync, D: Depot, G: Gate + Sync, L: Ledger>(
     requires workers { (0 < workers) × (workers ≤ 16) }
     requires asks { ask.now.command ≡ Ok (command.Cones workers) }
     requires suite { IsSuite loaded.now }
-    ensures told { TellsOn (D.shown depot.old).told (D.shown depot.new).told }
-    ensures faults { (D.shown depot.old).faults ≤ (D.shown depot.new).faults }
-    ensures reports { IfOk result (λ r. let told = (D.shown depot.new).told in
-        ReportsOver told ask.now loaded.now r.passed r.text steps.old steps.new) }
-    ensures refused { IfErr result (λ s. RefusedOver (D.shown depot.new).told ask.now loaded.now s) }
-    ensures form { IfOk result (λ r. MayReport ask.now.command r.passed) }
-    ensures ends { IfErr result (λ s.
-        ReportEnds ask.now s (D.shown depot.old) (D.shown depot.new)) }
+    ensures { let depot_now = D.shown depot.new in
+        AnswersOver loaded.now ask.now (D.shown depot.old) depot_now steps.old steps.new result }
 {
     let begun = begin(alloc, loaded, ask, depot)?;
     cones_of(rt, alloc, loaded, &begun, workers, gate, steps)

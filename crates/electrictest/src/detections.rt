@@ -2,9 +2,8 @@
 
 ghost use Rattle.std.specs.Prelude.{◌≡◌, ◌+◌, Ok, sum, IfOk, IfErr};
 ghost use Rattle.detect_run.specs.Detection.{IsDetectedRecord, IsDetection};
-ghost use Rattle.outside.specs.Depot.{Told, DepotView};
-ghost use Rattle.electrictest.specs.{Causes.MayReport, Loads.IsSuite, Running.RunRefused, Words.Ask};
-ghost use Rattle.electrictest.specs.Commands.{ReportEnds, ReportsOver, RefusedOver};
+ghost use Rattle.outside.specs.Depot.{DepotView};
+ghost use Rattle.electrictest.specs.{Begun.AreCounted, Commands.AnswersOver, Detections.IsFound, Loads.IsSuite, Running.RunRefused, Words.Ask};
 ghost use Rattle.electrictest.specs.declared.words.Command.TheVariants as command;
 ghost use Rattle.electrictest.specs.Detections as detection;
 
@@ -22,10 +21,8 @@ use std::alloc::Global;
 use std::sync::ledger::Ledger;
 use suite_load::Loaded;
 
-/// What the detection run of a suite finds.
-///
-/// `Over` comes where a test passes its budget or the rest of the suite's units.
-pub fn detected<L: Ledger>(
+// What the detection run of a suite finds.
+fn detected<L: Ledger>(
     alloc: Global,
     loaded: &Loaded,
     steps: &mut Steps<L>,
@@ -44,8 +41,10 @@ pub fn detected<L: Ledger>(
     }
 }
 
-// The record alone.
-fn recorded<L: Ledger>(
+/// The record of a suite's own run, without what else that run finds.
+///
+/// `Over` comes where a test passes its budget or the rest of the suite's units.
+pub fn recorded<L: Ledger>(
     alloc: Global,
     loaded: &Loaded,
     steps: &mut Steps<L>,
@@ -71,8 +70,8 @@ fn record_report<L: Ledger>(
     steps: &mut Steps<L>,
 ) -> Result<Report, Status>
     requires suite { IsSuite loaded.now }
-    ensures reports { IfOk result (λ r. detection.Finds
-        loaded.now detection.recorded r.passed r.text steps.old steps.new) }
+    ensures reports { IfOk result (λ r. let found = IsFound loaded.now detection.recorded in
+        AreCounted (found r.passed r.text) steps.old steps.new) }
     ensures refused { IfErr result (RunRefused loaded.now) }
 {
     let found = recorded(alloc, loaded, steps)?;
@@ -99,8 +98,8 @@ fn deps_report<L: Ledger>(
     steps: &mut Steps<L>,
 ) -> Result<Report, Status>
     requires suite { IsSuite loaded.now }
-    ensures reports { IfOk result (λ r. detection.Finds
-        loaded.now (detection.dependences json) r.passed r.text steps.old steps.new) }
+    ensures reports { IfOk result (λ r. let found = IsFound loaded.now (detection.dependences json) in
+        AreCounted (found r.passed r.text) steps.old steps.new) }
     ensures refused { IfErr result (RunRefused loaded.now) }
 {
     let found = detected(alloc, loaded, steps)?;
@@ -117,14 +116,8 @@ pub fn record_for<L: Ledger>(
     steps: &mut Steps<L>,
 ) -> Result<Report, Status>
     requires suite { IsSuite loaded.now }
-    ensures reports { (told : Told) (a : Ask) → a.command ≡ Ok command.Detect → IfOk result (λ r.
-        ReportsOver told a loaded.now r.passed r.text steps.old steps.new) }
-    ensures refused { (told : Told) (a : Ask) → a.command ≡ Ok command.Detect →
-        IfErr result (λ s. RefusedOver told a loaded.now s) }
-    ensures form { (a : Ask) → a.command ≡ Ok command.Detect →
-        IfOk result (λ r. MayReport a.command r.passed) }
-    ensures ends { (a : Ask) (depot : DepotView) → a.command ≡ Ok command.Detect →
-        IfErr result (λ s. ReportEnds a s depot depot) }
+    ensures { (a : Ask) (depot : DepotView) → a.command ≡ Ok command.Detect →
+        AnswersOver loaded.now a depot depot steps.old steps.new result }
 {
     record_report(alloc, loaded, steps)
 }
@@ -139,14 +132,8 @@ pub fn deps_for<L: Ledger>(
     steps: &mut Steps<L>,
 ) -> Result<Report, Status>
     requires suite { IsSuite loaded.now }
-    ensures reports { (told : Told) (a : Ask) → a.command ≡ Ok (command.Deps json) → IfOk result (λ r.
-        ReportsOver told a loaded.now r.passed r.text steps.old steps.new) }
-    ensures refused { (told : Told) (a : Ask) → a.command ≡ Ok (command.Deps json) →
-        IfErr result (λ s. RefusedOver told a loaded.now s) }
-    ensures form { (a : Ask) → a.command ≡ Ok (command.Deps json) →
-        IfOk result (λ r. MayReport a.command r.passed) }
-    ensures ends { (a : Ask) (depot : DepotView) → a.command ≡ Ok (command.Deps json) →
-        IfErr result (λ s. ReportEnds a s depot depot) }
+    ensures { (a : Ask) (depot : DepotView) → a.command ≡ Ok (command.Deps json) →
+        AnswersOver loaded.now a depot depot steps.old steps.new result }
 {
     deps_report(alloc, loaded, json, steps)
 }

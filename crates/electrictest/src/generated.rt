@@ -9,7 +9,7 @@ ghost use Rattle.generated_law.specs.GeneratedRecord.{is_raw, is_waw, is_war};
 ghost use Rattle.generated_law.specs.GeneratedSuite.{generated_suite, suite_files};
 ghost use Rattle.worker_pool.specs.Plans.{units_of};
 
-use crate::detections::detected;
+use crate::detections::recorded;
 use crate::loading::status_of;
 use crate::pool_reports::tally_of;
 use crate::pool_runs::{RunResult, run_pool};
@@ -109,12 +109,9 @@ fn begun_of<L: Ledger>(
     ensures counted { IfOk result (λ b. steps.new ≡ steps.old + sum b.record.units) }
     ensures refused { IfErr result (RunRefused loaded.now) }
 {
-    let found = detected(alloc, loaded, steps)?;
+    let record = recorded(alloc, loaded, steps)?;
     let tests = all_tests(alloc, loaded.names.tests.len() as u32)?;
-    Ok(Request {
-        tests,
-        record: found.kept,
-    })
+    Ok(Request { tests, record })
 }
 
 // Appends a word and a number.

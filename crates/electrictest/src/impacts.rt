@@ -1,8 +1,7 @@
 //! What changed class files concern.
 
-ghost use Rattle.std.specs.Prelude.{◌≡◌, ◌≤◌, ℕ, Ok, IfOk, IfErr};
-ghost use Rattle.outside.specs.Depot.{TellsOn};
-ghost use Rattle.electrictest.specs.{Causes.MayReport, Commands.ReportEnds, Commands.ReportsOver, Commands.RefusedOver};
+ghost use Rattle.std.specs.Prelude.{◌≡◌, ℕ, Ok};
+ghost use Rattle.electrictest.specs.{Commands.AnswersOver};
 ghost use Rattle.electrictest.specs.declared.words.Command.TheVariants as command;
 
 use crate::asks::Ask;
@@ -24,14 +23,8 @@ pub fn impact_for<D: Depot>(
     depot: &mut D,
 ) -> Result<Report, Status>
     requires asks { ask.now.command ≡ Ok command.Impact }
-    ensures told { TellsOn (D.shown depot.old).told (D.shown depot.new).told }
-    ensures faults { (D.shown depot.old).faults ≤ (D.shown depot.new).faults }
-    ensures reports { (steps : ℕ) → IfOk result (λ r. let told = (D.shown depot.new).told in
-        ReportsOver told ask.now loaded.now r.passed r.text steps steps) }
-    ensures refused { IfErr result (λ s. RefusedOver (D.shown depot.new).told ask.now loaded.now s) }
-    ensures form { IfOk result (λ r. MayReport ask.now.command r.passed) }
-    ensures ends { IfErr result (λ s.
-        ReportEnds ask.now s (D.shown depot.old) (D.shown depot.new)) }
+    ensures { (steps : ℕ) → let depot_now = D.shown depot.new in
+        AnswersOver loaded.now ask.now (D.shown depot.old) depot_now steps steps result }
 {
     let record = earlier_record(alloc, depot, loaded, ask.record())?;
     let text = impact_text(

@@ -12,8 +12,8 @@
 //!   of faults that don't.
 //!
 //! One enum, `Command`, has all forms of words, and `Ask` is what a call was asked with the words
-//! that name what it is about. A command over a loaded suite is a function of its own file with the
-//! same three clauses: what it reports, why it doesn't, and how that ends.
+//! that name what it is about. A command over a loaded suite is a function of its own file that
+//! promises `AnswersOver`: what it reports, why it doesn't, and how that ends.
 #![tactic(auto)]
 
 mod asks;

@@ -1,10 +1,8 @@
 //! What becomes of each test without one of its writers.
 
-ghost use Rattle.std.specs.Prelude.{◌≡◌, ◌≤◌, Ok, length, IfOk, IfErr};
-ghost use Rattle.outside.specs.Depot.{TellsOn};
+ghost use Rattle.std.specs.Prelude.{◌≡◌, Ok, length, IfOk, IfErr};
 ghost use Rattle.cone_run.specs.Marks.{HasWriter};
-ghost use Rattle.electrictest.specs.{Causes.MayReport, ConeRuns.AreCounted, ConeRuns.ConesRefused, Loads.IsSuite, Manifests.IsManifest, Records.beginning};
-ghost use Rattle.electrictest.specs.Commands.{ReportEnds, ReportsOver, RefusedOver};
+ghost use Rattle.electrictest.specs.{Begun.AreCounted, Commands.AnswersOver, ConeRuns.ConesRefused, Loads.IsSuite, Manifests.IsManifest, Records.beginning};
 ghost use Rattle.electrictest.specs.declared.words.Command.TheVariants as command;
 
 use crate::asks::Ask;
@@ -60,14 +58,8 @@ pub fn manifest_for<D: Depot, L: Ledger>(
 ) -> Result<Report, Status>
     requires asks { ask.now.command ≡ Ok command.Manifest }
     requires suite { IsSuite loaded.now }
-    ensures told { TellsOn (D.shown depot.old).told (D.shown depot.new).told }
-    ensures faults { (D.shown depot.old).faults ≤ (D.shown depot.new).faults }
-    ensures reports { IfOk result (λ r. let told = (D.shown depot.new).told in
-        ReportsOver told ask.now loaded.now r.passed r.text steps.old steps.new) }
-    ensures refused { IfErr result (λ s. RefusedOver (D.shown depot.new).told ask.now loaded.now s) }
-    ensures form { IfOk result (λ r. MayReport ask.now.command r.passed) }
-    ensures ends { IfErr result (λ s.
-        ReportEnds ask.now s (D.shown depot.old) (D.shown depot.new)) }
+    ensures { let depot_now = D.shown depot.new in
+        AnswersOver loaded.now ask.now (D.shown depot.old) depot_now steps.old steps.new result }
 {
     let begun = begin(alloc, loaded, ask, depot)?;
     manifest_of(alloc, loaded, &begun, steps)

@@ -1,12 +1,10 @@
 //! Orders of tests.
 
-ghost use Rattle.std.specs.Prelude.{◌≡◌, ◌≤◌, All, Ok, IfOk, IfErr};
-ghost use Rattle.outside.specs.Depot.{TellsOn};
+ghost use Rattle.std.specs.Prelude.{◌≡◌, All, Ok, IfOk, IfErr};
 ghost use Rattle.order_law.specs.Conflicts.{Lawful};
 ghost use Rattle.selection_close.specs.Faults.{fault_of};
 ghost use Rattle.test_run.specs.Running.{IsTest};
-ghost use Rattle.electrictest.specs.{Causes.MayReport, Loads.IsSuite, Records.beginning, Running.OrderRefused};
-ghost use Rattle.electrictest.specs.Commands.{ReportEnds, ReportsOver, RefusedOver};
+ghost use Rattle.electrictest.specs.{Begun.AreCounted, Commands.AnswersOver, Loads.IsSuite, Records.beginning, Running.OrderRefused};
 ghost use Rattle.electrictest.specs.declared.words.Command.TheVariants as command;
 ghost use Rattle.electrictest.specs.Orders as order;
 
@@ -68,8 +66,8 @@ fn order_of<L: Ledger>(
 ) -> Result<Report, Status>
     requires tests { All (IsTest loaded.now.checked) begun.now.tests }
     requires suite { IsSuite loaded.now }
-    ensures reports { IfOk result (λ r. order.Reports loaded.now (beginning begun.now) r.passed r.text
-        steps.old steps.new) }
+    ensures reports { IfOk result (λ r. let b = beginning begun.now in
+        AreCounted (order.IsOrderReport loaded.now b r.passed r.text) steps.old steps.new) }
     ensures refused { IfErr result (OrderRefused loaded.now (beginning begun.now)) }
 {
     judged(alloc, loaded, begun)?;
@@ -96,14 +94,8 @@ pub fn order_for<D: Depot, L: Ledger>(
 ) -> Result<Report, Status>
     requires asks { ask.now.command ≡ Ok command.Order }
     requires suite { IsSuite loaded.now }
-    ensures told { TellsOn (D.shown depot.old).told (D.shown depot.new).told }
-    ensures faults { (D.shown depot.old).faults ≤ (D.shown depot.new).faults }
-    ensures reports { IfOk result (λ r. let told = (D.shown depot.new).told in
-        ReportsOver told ask.now loaded.now r.passed r.text steps.old steps.new) }
-    ensures refused { IfErr result (λ s. RefusedOver (D.shown depot.new).told ask.now loaded.now s) }
-    ensures form { IfOk result (λ r. MayReport ask.now.command r.passed) }
-    ensures ends { IfErr result (λ s.
-        ReportEnds ask.now s (D.shown depot.old) (D.shown depot.new)) }
+    ensures { let depot_now = D.shown depot.new in
+        AnswersOver loaded.now ask.now (D.shown depot.old) depot_now steps.old steps.new result }
 {
     let begun = begin(alloc, loaded, ask, depot)?;
     order_of(alloc, loaded, &begun, steps)

@@ -1,6 +1,6 @@
 //! The text of a plan.
 
-ghost use Rattle.std.specs.Prelude.{◌≡◌, ℕ, ◌<◌, ◌^◌, ◌++◌, ◌+◌, map, length, sum, IfOk, OnOk};
+ghost use Rattle.std.specs.Prelude.{◌≡◌, ℕ, ◌<◌, ◌^◌, ◌++◌, ◌+◌, map, sum, IfOk, OnOk};
 ghost use Rattle.order_law.specs.{Conflicts.Distinct, Plan.chain_at};
 ghost use Rattle.dep_record.specs.RecordText.{numbers_text, more_numbers};
 ghost use Rattle.schedule_plan.specs.Plans.{HasUnits, HaveUnits, units_of};

@@ -1,10 +1,8 @@
 //! Plans of selections.
 
-ghost use Rattle.std.specs.Prelude.{◌≡◌, ◌<◌, ◌≤◌, ℕ, Ok, IfOk, IfErr};
-ghost use Rattle.outside.specs.Depot.{TellsOn};
+ghost use Rattle.std.specs.Prelude.{◌≡◌, ◌<◌, ℕ, Ok, IfOk};
 ghost use Rattle.schedule_plan.specs.Plans.{HasUnits};
-ghost use Rattle.electrictest.specs.{Causes.MayReport, Loads.IsSuite, Plans.IsPlanReport, Records.beginning};
-ghost use Rattle.electrictest.specs.Commands.{ReportEnds, ReportsOver, RefusedOver};
+ghost use Rattle.electrictest.specs.{Commands.AnswersOver, Loads.IsSuite, Plans.IsPlanReport, Records.beginning};
 ghost use Rattle.electrictest.specs.declared.words.Command.TheVariants as command;
 
 use crate::asks::Ask;
@@ -49,14 +47,8 @@ pub fn plan_for<D: Depot>(
     requires workers { 0 < workers }
     requires asks { ask.now.command ≡ Ok (command.Plan workers) }
     requires suite { IsSuite loaded.now }
-    ensures told { TellsOn (D.shown depot.old).told (D.shown depot.new).told }
-    ensures faults { (D.shown depot.old).faults ≤ (D.shown depot.new).faults }
-    ensures reports { (steps : ℕ) → IfOk result (λ r. let told = (D.shown depot.new).told in
-        ReportsOver told ask.now loaded.now r.passed r.text steps steps) }
-    ensures refused { IfErr result (λ s. RefusedOver (D.shown depot.new).told ask.now loaded.now s) }
-    ensures form { IfOk result (λ r. MayReport ask.now.command r.passed) }
-    ensures ends { IfErr result (λ s.
-        ReportEnds ask.now s (D.shown depot.old) (D.shown depot.new)) }
+    ensures { (steps : ℕ) → let depot_now = D.shown depot.new in
+        AnswersOver loaded.now ask.now (D.shown depot.old) depot_now steps steps result }
 {
     let begun = begin(alloc, loaded, ask, depot)?;
     let text = plan_of(alloc, &begun, workers)?;

@@ -1,17 +1,15 @@
 //! Runs of a selection's closure on workers.
 
 ghost use Rattle.std.specs.Prelude.{◌≡◌, ◌+◌, ◌<◌, ◌≤◌, ◌++◌, [], cond, length, Ok, OnOk, IfOk, IfErr};
-ghost use Rattle.outside.specs.Depot.{TellsOn};
-ghost use Rattle.schedule_plan.specs.Plans.{HasUnits, HaveUnits, IsPlanOf, chain_units};
+ghost use Rattle.schedule_plan.specs.Plans.{HasUnits, IsPlanOf, chain_units};
 ghost use Rattle.run_core.specs.Run.{history};
 ghost use Rattle.worker_pool.specs.{Faults.IsPlanFault, Plans.units_of};
 ghost use Rattle.jvm_model.specs.State.{test_at};
-ghost use Rattle.electrictest.specs.{Causes.MayReport, Loads.IsSuite, Logs.log_text, Pools.IsPooled, Records.beginning};
-ghost use Rattle.electrictest.specs.Commands.{ReportEnds, ReportsOver, RefusedOver};
+ghost use Rattle.electrictest.specs.{Begun.AreCounted, Commands.AnswersOver, Loads.IsSuite, Logs.log_text, Pools.IsPooled, Records.beginning};
 ghost use Rattle.electrictest.specs.declared.words.Command.TheVariants as command;
 ghost use Rattle.electrictest.specs.declared.status.OverFault.TheVariants as over_fault;
 ghost use Rattle.electrictest.specs.declared.status.Status.TheVariants as ends;
-ghost use Rattle.electrictest.specs.PoolRuns.{IsChosen, IsPoolReport, PoolReports, PoolRefused};
+ghost use Rattle.electrictest.specs.PoolRuns.{IsChosen, IsPoolReport, PoolRefused};
 ghost use Rattle.electrictest.specs.TestNames as names_of;
 
 use crate::asks::Ask;
@@ -213,8 +211,8 @@ fn pool_of<R: Threads + Wait + Sync, G: Gate + Sync, L: Ledger>(
     requires suite { IsSuite loaded.now }
     requires tests { HasUnits begun.now.tests begun.now.record.units }
     requires units { length begun.now.record.units ≡ length loaded.now.checked.tests }
-    ensures reports { IfOk result (λ r. PoolReports loaded.now (beginning begun.now)
-        workers log r.passed r.text steps.old steps.new) }
+    ensures reports { IfOk result (λ r. let is = IsPoolReport loaded.now (beginning begun.now) in
+        AreCounted (is workers log r.passed r.text) steps.old steps.new) }
     ensures refused { IfErr result (PoolRefused loaded.now (beginning begun.now)) }
 {
     let pooled = run_pool(rt, alloc, loaded, begun, workers, gate, steps)?;
@@ -241,14 +239,8 @@ pub fn run_for<R: Threads + Wait + Sync, D: Depot, G: Gate + Sync, L: Ledger>(
     requires workers { 0 < workers }
     requires asks { ask.now.command ≡ Ok (command.Run workers log) }
     requires suite { IsSuite loaded.now }
-    ensures told { TellsOn (D.shown depot.old).told (D.shown depot.new).told }
-    ensures faults { (D.shown depot.old).faults ≤ (D.shown depot.new).faults }
-    ensures reports { IfOk result (λ r. let told = (D.shown depot.new).told in
-        ReportsOver told ask.now loaded.now r.passed r.text steps.old steps.new) }
-    ensures refused { IfErr result (λ s. RefusedOver (D.shown depot.new).told ask.now loaded.now s) }
-    ensures form { IfOk result (λ r. MayReport ask.now.command r.passed) }
-    ensures ends { IfErr result (λ s.
-        ReportEnds ask.now s (D.shown depot.old) (D.shown depot.new)) }
+    ensures { let depot_now = D.shown depot.new in
+        AnswersOver loaded.now ask.now (D.shown depot.old) depot_now steps.old steps.new result }
 {
     let begun = begin(alloc, loaded, ask, depot)?;
     pool_of(rt, alloc, loaded, &begun, workers, log, gate, steps)

@@ -1,13 +1,12 @@
 //! The top call for all commands.
 
-ghost use Rattle.std.specs.Prelude.{◌≡◌, ◌≤◌, None, IfOk, IfErr};
+ghost use Rattle.std.specs.Prelude.{◌≡◌, ◌≤◌, None};
 ghost use Rattle.outside.specs.Depot.{OfHeld, TellsOn};
-ghost use Rattle.electrictest.specs.{Causes.MayReport, Complete.Complete, EagerForms.EagerAnswer, EarlierRecords.EarlierAnswer};
-ghost use Rattle.electrictest.specs.Commands.{called, ReportEnds, Reported, ReportsOver, RefusedOver, Taken, Served, Ends};
+ghost use Rattle.electrictest.specs.{Complete.Complete, EagerForms.EagerAnswer, EarlierRecords.EarlierAnswer};
+ghost use Rattle.electrictest.specs.Commands.{called, AnswersAny, AnswersOver, Taken, Served, Ends};
 ghost use Rattle.electrictest.specs.{GeneratedAnswers.GeneratedAnswer, GeneratedAnswers.Summed, Loads.IsSuite};
 ghost use Rattle.electrictest.specs.{OwnCones.OwnConesAnswer, OwnCones.OwnManifestAnswer, OwnLists.DetectedOrderAnswer, OwnLists.OwnOrderAnswer};
 ghost use Rattle.electrictest.specs.{OwnPools.DetectedAnswer, OwnPools.OwnAnswer, Words.threaded, Words.refusal_of, Words.IsOverSuite, Words.OfGenerated};
-ghost use Rattle.electrictest.specs.Replies as reply;
 
 use crate::asks::Ask;
 use crate::commands::{answered, report_for};
@@ -39,15 +38,8 @@ fn text_for<R: Threads + Wait + Sync, D: Depot, G: Gate + Sync, L: Ledger>(
     requires form { refusal_of ask.now.command ≡ None }
     requires over { IsOverSuite ask.now.command }
     requires suite { IsSuite loaded.now }
-    ensures told { TellsOn (D.shown depot.old).told (D.shown depot.new).told }
-    ensures faults { (D.shown depot.old).faults ≤ (D.shown depot.new).faults }
-    ensures reports { IfOk result (λ r. let told = (D.shown depot.new).told in
-        ReportsOver told ask.now loaded.now r.passed r.text steps.old steps.new) }
-    ensures refused { IfErr result (λ s.
-        RefusedOver (D.shown depot.new).told ask.now loaded.now s) }
-    ensures form { IfOk result (λ r. MayReport ask.now.command r.passed) }
-    ensures ends { IfErr result (λ s.
-        ReportEnds ask.now s (D.shown depot.old) (D.shown depot.new)) }
+    ensures { let depot_now = D.shown depot.new in
+        AnswersOver loaded.now ask.now (D.shown depot.old) depot_now steps.old steps.new result }
 {
     match ask.command() {
         Ok(Command::Run { workers, log }) => {
@@ -70,15 +62,8 @@ fn suite_text<R: Threads + Wait + Sync, D: Depot, G: Gate + Sync, L: Ledger>(
     steps: &mut Steps<L>,
 ) -> Result<Report, Status>
     requires over { IsOverSuite ask.now.command }
-    ensures told { TellsOn (D.shown depot.old).told (D.shown depot.new).told }
-    ensures faults { (D.shown depot.old).faults ≤ (D.shown depot.new).faults }
-    ensures reports { IfOk result (λ r. OfHeld (D.shown depot.new).told (λ files.
-        Reported files ask.now r.passed r.text steps.old steps.new)) }
-    ensures refused { IfErr result (λ s. OfHeld (D.shown depot.new).told (λ files.
-        reply.Unreported files ask.now s)) }
-    ensures form { IfOk result (λ r. MayReport ask.now.command r.passed) }
-    ensures ends { IfErr result (λ s.
-        ReportEnds ask.now s (D.shown depot.old) (D.shown depot.new)) }
+    ensures answers { let depot_now = D.shown depot.new in
+        AnswersAny ask.now (D.shown depot.old) depot_now steps.old steps.new result }
     ensures generated { let depot_now = D.shown depot.new in OfGenerated ask.now.command (λ k n.
         Summed k n result (D.shown depot.old) depot_now steps.old steps.new) }
 {
@@ -95,15 +80,8 @@ fn asked_text<R: Threads + Wait + Sync, D: Depot, G: Gate + Sync, L: Ledger>(
     gate: &G,
     steps: &mut Steps<L>,
 ) -> Result<Report, Status>
-    ensures told { TellsOn (D.shown depot.old).told (D.shown depot.new).told }
-    ensures faults { (D.shown depot.old).faults ≤ (D.shown depot.new).faults }
-    ensures reports { IfOk result (λ r. OfHeld (D.shown depot.new).told (λ files.
-        Reported files ask.now r.passed r.text steps.old steps.new)) }
-    ensures refused { IfErr result (λ s. OfHeld (D.shown depot.new).told (λ files.
-        reply.Unreported files ask.now s)) }
-    ensures form { IfOk result (λ r. MayReport ask.now.command r.passed) }
-    ensures ends { IfErr result (λ s.
-        ReportEnds ask.now s (D.shown depot.old) (D.shown depot.new)) }
+    ensures answers { let depot_now = D.shown depot.new in
+        AnswersAny ask.now (D.shown depot.old) depot_now steps.old steps.new result }
     ensures generated { let depot_now = D.shown depot.new in OfGenerated ask.now.command (λ k n.
         Summed k n result (D.shown depot.old) depot_now steps.old steps.new) }
 {

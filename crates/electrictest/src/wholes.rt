@@ -1,9 +1,8 @@
 //! Runs of the whole suite.
 
 ghost use Rattle.std.specs.Prelude.{◌≡◌, Ok, IfOk, IfErr};
-ghost use Rattle.outside.specs.Depot.{Told, DepotView};
-ghost use Rattle.electrictest.specs.{Causes.MayReport, Running.RunRefused, Running.WholeReports, Words.Ask};
-ghost use Rattle.electrictest.specs.Commands.{ReportEnds, ReportsOver, RefusedOver};
+ghost use Rattle.outside.specs.Depot.{DepotView};
+ghost use Rattle.electrictest.specs.{Begun.AreCounted, Commands.AnswersOver, Running.RunRefused, Wholes.IsWholeReport, Words.Ask};
 ghost use Rattle.electrictest.specs.declared.words.Command.TheVariants as command;
 
 use crate::reports::{Report, report_on};
@@ -20,7 +19,8 @@ fn whole_report<L: Ledger>(
     loaded: &Loaded,
     steps: &mut Steps<L>,
 ) -> Result<Report, Status>
-    ensures reports { IfOk result (λ r. WholeReports loaded.now r.passed r.text steps.old steps.new) }
+    ensures reports { IfOk result (λ r.
+        AreCounted (IsWholeReport loaded.now r.passed r.text) steps.old steps.new) }
     ensures refused { IfErr result (RunRefused loaded.now) }
 {
     let outcomes = run_all(alloc, loaded, steps)?;
@@ -36,14 +36,8 @@ pub fn whole_for<L: Ledger>(
     loaded: &Loaded,
     steps: &mut Steps<L>,
 ) -> Result<Report, Status>
-    ensures reports { (told : Told) (a : Ask) → a.command ≡ Ok command.Whole → IfOk result (λ r.
-        ReportsOver told a loaded.now r.passed r.text steps.old steps.new) }
-    ensures refused { (told : Told) (a : Ask) → a.command ≡ Ok command.Whole →
-        IfErr result (λ s. RefusedOver told a loaded.now s) }
-    ensures form { (a : Ask) → a.command ≡ Ok command.Whole →
-        IfOk result (λ r. MayReport a.command r.passed) }
-    ensures ends { (a : Ask) (depot : DepotView) → a.command ≡ Ok command.Whole →
-        IfErr result (λ s. ReportEnds a s depot depot) }
+    ensures { (a : Ask) (depot : DepotView) → a.command ≡ Ok command.Whole →
+        AnswersOver loaded.now a depot depot steps.old steps.new result }
 {
     whole_report(alloc, loaded, steps)
 }

@@ -1,11 +1,9 @@
-use Rattle.std.proofs.Common.{ℕ, refl}
-use Rattle.std.proofs.lemmas.Result.{IfOk-weaker, IfErr-weaker}
+use Rattle.std.proofs.Common.{Ok, refl}
+use Rattle.std.proofs.lemmas.Result.{err_from_is_err_and}
 use Rattle.order_law.specs.Conflicts.{Member}
-use Rattle.electrictest.specs.{declared.reports.Report.Report, declared.status.Status.Status, Causes.MayReport, Records.beginning, Selections.selected}
 use Rattle.electrictest.specs.declared.words.Command.TheVariants as command
-use Rattle.electrictest.specs.{Words.word_at, Commands.ReportEnds, Commands.ReportsOver, Commands.RefusedOver}
-use Rattle.electrictest.specs.ConeRuns.{AreCounted, ConesRefused, IsConeReport}
-use Rattle.electrictest.proofs.{AskedFor.may_report, AskedFor.named_as, ConeReplies.counted_reports, ConeReplies.cones_refused, ConeReplies.cones_ends}
+use Rattle.electrictest.specs.{ConeRuns.IsConeReport, ConeRuns.IsOverCone, Records.beginning, Selections.selected, Words.word_at}
+use Rattle.electrictest.proofs.{Answering.begun_answers, AskedFor.may_report, AskedFor.named_as}
 use Rattle.electrictest.proofs.cone_runs.cones_for.Goals as goal
 
 pub begin-requires-clause-named : goal.begin-requires-clause-named
@@ -15,42 +13,17 @@ begin-requires-clause-named g c =
     let named = selected l.names (word_at a.words 4) in
     (named, named_as (command.Cones c.args.workers) a l named c.requires.asks (record { by = refl; fits = refl; formed = refl }))
 
-pub returns-clause-reports : goal.returns-clause-reports
-returns-clause-reports g c =
-    let a = c.args.ask.now in
-    let l = c.args.loaded.now in
-    let b = beginning c.in_ok-begun.begun in
-    let told = (g.D.Depot.shown c.begin.new.depot).told in
-    let begun = c.args.steps.now in
-    let now = c.cones_of.new.steps in
-    IfOk-weaker c.cones_of.result (λ (r : Report). AreCounted (IsConeReport l b r.passed r.text) begun now) (λ (r : Report). ReportsOver told a l r.passed r.text begun now)
-    (λ r h. counted_reports told a l b (command.Cones c.args.workers) r.passed r.text begun now (λ x y n. IsConeReport x y r.passed r.text n) c.requires.asks (λ files n is. is) c.in_ok-begun.ensures.begins c.in_ok-begun.ensures.suite h) c.cones_of.ensures.reports
+pub returns-in_err-begun : goal.returns-in_err-begun
+returns-in_err-begun g c =
+    let p = err_from_is_err_and c.from_residual.result c.from_residual.ensures.1 in
+    rw (p.1, p.2) (c.in_err-begun.ensures.refused c.args.steps.now)
 
-pub returns-clause-refused : goal.returns-clause-refused
-returns-clause-refused g c =
-    let a = c.args.ask.now in
+pub returns : goal.returns
+returns g c =
     let l = c.args.loaded.now in
-    let b = beginning c.in_ok-begun.begun in
-    let told = (g.D.Depot.shown c.begin.new.depot).told in
-    IfErr-weaker c.cones_of.result (λ (s : Status). ConesRefused l b (λ (t : ℕ). Member t b.tests) s) (λ (s : Status). RefusedOver told a l s)
-    (λ s h. cones_refused told a l b (command.Cones c.args.workers) (λ y t. Member t y.tests) s c.requires.asks (λ files f is. is) c.in_ok-begun.ensures.begins c.in_ok-begun.ensures.suite h) c.cones_of.ensures.refused
-
-pub returns-clause-form : goal.returns-clause-form
-returns-clause-form g c =
-    let a = c.args.ask.now in
-    let l = c.args.loaded.now in
-    let b = beginning c.in_ok-begun.begun in
-    let begun = c.args.steps.now in
-    let now = c.cones_of.new.steps in
-    IfOk-weaker c.cones_of.result (λ (r : Report). AreCounted (IsConeReport l b r.passed r.text) begun now) (λ (r : Report). MayReport a.command r.passed)
-    (λ r h. may_report a.command r.passed (command.Cones c.args.workers, c.requires.asks, refl)) c.cones_of.ensures.reports
-
-pub returns-clause-ends : goal.returns-clause-ends
-returns-clause-ends g c =
-    let a = c.args.ask.now in
-    let l = c.args.loaded.now in
-    let b = beginning c.in_ok-begun.begun in
     let old = g.D.Depot.shown c.args.depot.now in
     let new = g.D.Depot.shown c.begin.new.depot in
-    IfErr-weaker c.cones_of.result (λ (s : Status). ConesRefused l b (λ (t : ℕ). Member t b.tests) s) (λ (s : Status). ReportEnds a s old new)
-    (λ s h. cones_ends a l b (λ (t : ℕ). Member t b.tests) s old new (command.Cones c.args.workers, c.requires.asks, refl) h) c.cones_of.ensures.refused
+    let b = beginning c.in_ok-begun.begun in
+    begun_answers (command.Cones c.args.workers) c.args.ask.now l c.requires.asks old new c.begin.ensures.told c.begin.ensures.faults c.args.steps.now c.cones_of.new.steps b c.in_ok-begun.ensures.begins c.in_ok-begun.ensures.suite
+    IsConeReport (λ x y. IsOverCone x y (λ t. Member t y.tests)) c.cones_of.result refl (λ files passed text units is. is) (λ files f is. is)
+    (λ passed text units is. may_report (Ok (command.Cones c.args.workers)) passed (command.Cones c.args.workers, refl, refl)) c.cones_of.ensures.reports c.cones_of.ensures.refused

@@ -8,12 +8,12 @@ returns-clause-reports g c =
     let d = c.in_ok-found.ensures.found in
     record {
       units = sum c.in_ok-found.found.units;
-      finds = record {
+      report = record {
         found = d.whole;
         is = d.is;
         writes = c.in_ok-text.ensures ∙ ap (λ (r : Record). record_text r) (sym d.kept);
         ends = refl;
         counts = ap (λ (r : Record). sum r.units) (sym d.kept);
       };
-      steps = c.in_ok-found.ensures.counted;
+      counts = c.in_ok-found.ensures.counted;
     }

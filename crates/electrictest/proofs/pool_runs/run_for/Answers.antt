@@ -1,9 +1,8 @@
-use Rattle.std.proofs.Common.{refl}
-use Rattle.std.proofs.lemmas.Result.{IfOk-weaker, IfErr-weaker}
-use Rattle.electrictest.specs.{declared.reports.Report.Report, declared.status.Status.Status, Causes.MayReport, PoolRuns.PoolReports, PoolRuns.PoolRefused}
+use Rattle.std.proofs.Common.{Ok, refl}
+use Rattle.std.proofs.lemmas.Result.{err_from_is_err_and}
 use Rattle.electrictest.specs.declared.words.Command.TheVariants as command
-use Rattle.electrictest.specs.{Records.beginning, Selections.selected, Words.word_at, Commands.ReportEnds, Commands.ReportsOver, Commands.RefusedOver}
-use Rattle.electrictest.proofs.{AskedFor.may_report, AskedFor.named_as, PoolReplies.pool_reports, PoolReplies.pool_refused, PoolReplies.pool_ends}
+use Rattle.electrictest.specs.{PoolRuns.IsOverPool, PoolRuns.IsPoolReport, Records.beginning, Selections.selected, Words.word_at}
+use Rattle.electrictest.proofs.{Answering.begun_answers, AskedFor.may_report, AskedFor.named_as}
 use Rattle.electrictest.proofs.pool_runs.run_for.Goals as goal
 
 pub begin-requires-clause-named : goal.begin-requires-clause-named
@@ -13,48 +12,17 @@ begin-requires-clause-named g c =
     let named = selected l.names (word_at a.words 4) in
     (named, named_as (command.Run c.args.workers c.args.log) a l named c.requires.asks (record { by = refl; fits = refl; formed = refl }))
 
-pub returns-clause-reports : goal.returns-clause-reports
-returns-clause-reports g c =
-    let a = c.args.ask.now in
-    let l = c.args.loaded.now in
-    let workers = c.args.workers in
-    let log = c.args.log in
-    let b = beginning c.in_ok-begun.begun in
-    let told = (g.D.Depot.shown c.begin.new.depot).told in
-    let begun = c.args.steps.now in
-    let now = c.pool_of.new.steps in
-    IfOk-weaker c.pool_of.result (λ (r : Report). PoolReports l b workers log r.passed r.text begun now) (λ (r : Report). ReportsOver told a l r.passed r.text begun now)
-    (λ r h. pool_reports told a workers log l b r.passed r.text begun now c.requires.asks c.in_ok-begun.ensures.begins c.in_ok-begun.ensures.suite h) c.pool_of.ensures.reports
+pub returns-in_err-begun : goal.returns-in_err-begun
+returns-in_err-begun g c =
+    let p = err_from_is_err_and c.from_residual.result c.from_residual.ensures.1 in
+    rw (p.1, p.2) (c.in_err-begun.ensures.refused c.args.steps.now)
 
-pub returns-clause-refused : goal.returns-clause-refused
-returns-clause-refused g c =
-    let a = c.args.ask.now in
+pub returns : goal.returns
+returns g c =
     let l = c.args.loaded.now in
-    let workers = c.args.workers in
-    let log = c.args.log in
-    let b = beginning c.in_ok-begun.begun in
-    let told = (g.D.Depot.shown c.begin.new.depot).told in
-    IfErr-weaker c.pool_of.result (λ (s : Status). PoolRefused l b s) (λ (s : Status). RefusedOver told a l s)
-    (λ s h. pool_refused told a workers log l b s c.requires.asks c.in_ok-begun.ensures.begins c.in_ok-begun.ensures.suite h) c.pool_of.ensures.refused
-
-pub returns-clause-form : goal.returns-clause-form
-returns-clause-form g c =
-    let a = c.args.ask.now in
-    let l = c.args.loaded.now in
-    let workers = c.args.workers in
-    let log = c.args.log in
-    let b = beginning c.in_ok-begun.begun in
-    let begun = c.args.steps.now in
-    let now = c.pool_of.new.steps in
-    IfOk-weaker c.pool_of.result (λ (r : Report). PoolReports l b workers log r.passed r.text begun now) (λ (r : Report). MayReport a.command r.passed)
-    (λ r h. may_report a.command r.passed (command.Run workers log, c.requires.asks, refl)) c.pool_of.ensures.reports
-
-pub returns-clause-ends : goal.returns-clause-ends
-returns-clause-ends g c =
-    let a = c.args.ask.now in
-    let l = c.args.loaded.now in
-    let b = beginning c.in_ok-begun.begun in
     let old = g.D.Depot.shown c.args.depot.now in
     let new = g.D.Depot.shown c.begin.new.depot in
-    IfErr-weaker c.pool_of.result (λ (s : Status). PoolRefused l b s) (λ (s : Status). ReportEnds a s old new)
-    (λ s h. pool_ends a l b s old new (command.Run c.args.workers c.args.log, c.requires.asks, refl) h) c.pool_of.ensures.refused
+    let b = beginning c.in_ok-begun.begun in
+    begun_answers (command.Run c.args.workers c.args.log) c.args.ask.now l c.requires.asks old new c.begin.ensures.told c.begin.ensures.faults c.args.steps.now c.pool_of.new.steps b c.in_ok-begun.ensures.begins c.in_ok-begun.ensures.suite
+    (λ x y. IsPoolReport x y c.args.workers c.args.log) IsOverPool c.pool_of.result refl (λ files passed text units is. is) (λ files f is. is)
+    (λ passed text units is. may_report (Ok (command.Run c.args.workers c.args.log)) passed (command.Run c.args.workers c.args.log, refl, refl)) c.pool_of.ensures.reports c.pool_of.ensures.refused
