@@ -7,11 +7,11 @@ use Rattle.jvm_model.specs.declared.outcome.Next.TheVariants.{Go, Fault, Raise, 
 use Rattle.jvm_model.specs.declared.program.Program.{Program}
 use Rattle.jvm_model.specs.declared.state.EntryKind.TheVariants.{InMethod}
 use Rattle.jvm_model.specs.{World.World, Classes.next_place, Classes.form_at, Entries.Entries, Entries.with_place, Rows.Answer, Rows.answer}
-use Rattle.jvm_model.specs.Access.{Access, done, spend, bind}
+use Rattle.jvm_model.specs.Access.{Access, done, spend, bind, run}
 use Rattle.jvm_model.specs.State.{State, Turn}
 use Rattle.jvm_model.specs.Step.{group_of, row, row_here, row_or_none, after_row}
-use Rattle.jvm_model.specs.View.{counted, touched, IsSafe, IsRow, IsTurn}
-use Rattle.jvm_model.proofs.Steps.{step_runs, safe_row}
+use Rattle.jvm_model.specs.View.{counted, ended, touched, IsSafe, IsRow, IsTurn}
+use Rattle.jvm_model.proofs.{Bridges.counted_is, Steps.step_runs, Steps.safe_row}
 use Rattle.vm_arith.specs.Pure.{GoesOn, GoesTo, Branches, Ends, TouchesNothing, is_pure}
 use Rattle.vm_frames.specs.Stack.{HasRoom}
 use Rattle.vm_mem.specs.Refines.{IsReady, Refines, Row, Traces}
@@ -20,8 +20,8 @@ use Rattle.vm_arith.proofs.{Rows.has_row, Steps.thrown}
 use Rattle.check_sound.specs.ReachLaw.{puts}
 use Rattle.vm_interp.specs.{Reaching.CanStep, Rows.form_row}
 use Rattle.vm_interp.specs.declared.flow.{Flow.Flow, Flow.TheVariants.Jump, Flow.TheVariants.Other}
-use Rattle.vm_interp.specs.Dispatching.{CanGo, CanRun, EndsFlow, IsLeft, next_of, settled, settled_flow, settled_units}
-use Rattle.vm_interp.proofs.Quiet.{grows, untouched}
+use Rattle.vm_interp.specs.Dispatching.{CanGo, CanRun, EndsFlow, HasOne, IsLeft, left_behind, next_of, settled, settled_flow}
+use Rattle.vm_interp.proofs.{Quiet.grows, Quiet.untouched, Whole.ended_so}
 
 -- the row of a form goes on, where this is the place of the next instruction
 record Goes (i : Instr) (next : ℕ) (s u : Entries) : Type 0 where
@@ -46,14 +46,14 @@ module _ (p : Program) (s : Entries) (w : World) (i : Instr) (n : ℕ) (u : Entr
   hot_touches : (ts : List Touch) → touched (row p i s) w ts ≡ ts
   hot_touches ts = ap (λ (a : Access (Answer Entries)). touched a w ts) (h.row p place)
 
-  went_meets : (left : ℕ) → Refines (form_row i) p w s (left + 1) Go u w left
-  went_meets left = hot_meets (left + 1) left (omega arith)
+  went_meets : (left : ℕ) → 0 < left → Refines (form_row i) p w s left Go u w (left - 1)
+  went_meets left l = hot_meets left (left - 1) (omega arith)
 
   went_tells : {M : Type 0} (follows : M → Trace → List Touch → Type 0) (m : M) → Traces (form_row i) p w s Go follows m m
   went_tells follows m o h ts k = subst (λ (us : List Touch). follows m h us) (sym (hot_touches ts)) k
 
-pub branch_meets : (p : Program) (w : World) (i : ℕ → Instr) (b : Bool) (to n : ℕ) (s u : Entries) (left : ℕ) → Branches i b s u → next_place p s.top.number s.top.pc ≡ n → Refines (form_row (i to)) p w s (left + 1) Go (with_place u (cond b to n)) w left
-branch_meets p w i b to n s u left h e = went_meets p s w (i to) n (with_place u (cond b to n)) e (branches i b to n s u h) left
+pub branch_meets : (p : Program) (w : World) (i : ℕ → Instr) (b : Bool) (to n : ℕ) (s u : Entries) (left : ℕ) → Branches i b s u → next_place p s.top.number s.top.pc ≡ n → 0 < left → Refines (form_row (i to)) p w s left Go (with_place u (cond b to n)) w (left - 1)
+branch_meets p w i b to n s u left h e l = went_meets p s w (i to) n (with_place u (cond b to n)) e (branches i b to n s u h) left l
 
 pub branch_tells : {M : Type 0} (follows : M → Trace → List Touch → Type 0) (m : M) (p : Program) (w : World) (i : ℕ → Instr) (b : Bool) (to : ℕ) (s u : Entries) → Branches i b s u → Traces (form_row (i to)) p w s Go follows m m
 branch_tells follows m p w i b to s u h = went_tells p s w (i to) (next_place p s.top.number s.top.pc) (with_place u (cond b to (next_place p s.top.number s.top.pc))) refl (branches i b to (next_place p s.top.number s.top.pc) s u h) follows m
@@ -78,8 +78,8 @@ module _ (p : Program) (s : State) (w : World) (can : CanStep p w s) (k : s.entr
   can_run i e = by_pure p i s.entries w (is_pure (group_of i)) refl (there p s.entries i w e row_safe) ((can.space k r).room i e)
 
 -- a form that goes on, and the place of the next instruction
-pub straight_meets : (p : Program) (w : World) (i : Instr) (n : ℕ) (s u : Entries) (left : ℕ) → GoesOn i s u → next_place p s.top.number s.top.pc ≡ n → Refines (form_row i) p w s (left + 1) Go (with_place u n) w left
-straight_meets p w i n s u left h e = went_meets p s w i n (with_place u n) e (goes i n s u h) left
+pub straight_meets : (p : Program) (w : World) (i : Instr) (n : ℕ) (s u : Entries) (left : ℕ) → GoesOn i s u → next_place p s.top.number s.top.pc ≡ n → 0 < left → Refines (form_row i) p w s left Go (with_place u n) w (left - 1)
+straight_meets p w i n s u left h e l = went_meets p s w i n (with_place u n) e (goes i n s u h) left l
 
 pub straight_tells : {M : Type 0} (follows : M → Trace → List Touch → Type 0) (m : M) (p : Program) (w : World) (i : Instr) (s u : Entries) → GoesOn i s u → Traces (form_row i) p w s Go follows m m
 straight_tells follows m p w i s u h = went_tells p s w i (next_place p s.top.number s.top.pc) (with_place u (next_place p s.top.number s.top.pc)) refl (goes i (next_place p s.top.number s.top.pc) s u h) follows m
@@ -89,20 +89,25 @@ targets : (i : Instr) (to n : ℕ) (s u : Entries) → GoesTo i to s u → Goes 
 targets i to n s u h = record { frame = h.frame.kind; number = h.frame.number; row = λ p e. h.row p s.top.pc }
 
 module _ (p : Program) (w : World) (i : Instr) (to : ℕ) (s u : Entries) (h : GoesTo i to s u) where
-  target_meets : (left : ℕ) → Refines (form_row i) p w s (left + 1) Go (with_place u to) w left
-  target_meets left = went_meets p s w i (next_place p s.top.number s.top.pc) (with_place u to) refl (targets i to (next_place p s.top.number s.top.pc) s u h) left
+  target_meets : (left : ℕ) → 0 < left → Refines (form_row i) p w s left Go (with_place u to) w (left - 1)
+  target_meets left l = went_meets p s w i (next_place p s.top.number s.top.pc) (with_place u to) refl (targets i to (next_place p s.top.number s.top.pc) s u h) left l
 
   target_tells : {M : Type 0} (follows : M → Trace → List Touch → Type 0) (m : M) → Traces (form_row i) p w s Go follows m m
   target_tells follows m = went_tells p s w i (next_place p s.top.number s.top.pc) (with_place u to) refl (targets i to (next_place p s.top.number s.top.pc) s u h) follows m
 
-pub target_made : {M : Type 0} (program : M → Program) (world : M → World) (follows : M → Trace → List Touch → Type 0) (m : M) (i : Instr) (to : ℕ) (s u t : Entries) (left : ℕ) → GoesTo i to s u → t ≡ with_place u to → (program m ≡ program m) × EndsFlow (form_row i) program world follows m m s (left + 1) Jump t left
-target_made program world follows m i to s u t left h e = (refl, (rw (e) (target_meets (program m) (world m) i to s u h left), target_tells (program m) (world m) i to s u h follows m))
+pub target_made : {M : Type 0} (program : M → Program) (world : M → World) (follows : M → Trace → List Touch → Type 0) (m : M) (i : Instr) (to : ℕ) (s u t : Entries) (left : ℕ) → GoesTo i to s u → t ≡ with_place u to → 0 < left → (program m ≡ program m) × (EndsFlow (form_row i) program world follows m m s left Jump t (left - 1) × HasOne Jump left)
+target_made program world follows m i to s u t left h e l = (refl, ((rw (e) (target_meets (program m) (world m) i to s u h left l), target_tells (program m) (world m) i to s u h follows m), l))
 
 -- a form that goes on at the next instruction or throws by itself
-pub settled_meets : (p : Program) (w : World) (i : Instr) (x : Next) (n : ℕ) (s u : Entries) (left : ℕ) → Ends i x s u → next_place p s.top.number s.top.pc ≡ n → Refines (form_row i) p w s (left + 1) (next_of (settled_flow x)) (settled x n u) w (settled_units x left)
-settled_meets p w i Go n s u left h e = straight_meets p w i n s u left h e
-settled_meets p w i (Fault c) n s u left h e = thrown i n (left + 1) (Fault c) s u h (λ k. absurd (cc)) p w e
-settled_meets p w i _ n s u left h e = absurd h
+pub settled_meets : (p : Program) (w : World) (i : Instr) (x : Next) (n : ℕ) (s u : Entries) (left : ℕ) → Ends i x s u → next_place p s.top.number s.top.pc ≡ n → 0 < left → Refines (form_row i) p w s left (next_of (settled_flow x)) (settled x n u) w (left_behind (settled_flow x) left)
+settled_meets p w i Go n s u left h e l = straight_meets p w i n s u left h e l
+settled_meets p w i (Fault c) n s u left h e l = thrown i n left (Fault c) s u h (λ k. absurd (cc)) p w e
+settled_meets p w i _ n s u left h e l = absurd h
+
+pub settled_one : (i : Instr) (x : Next) (s u : Entries) (left : ℕ) → Ends i x s u → 0 < left → HasOne (settled_flow x) left
+settled_one i Go s u left h l = l
+settled_one i (Fault c) s u left h l = tt
+settled_one i _ s u left h l = absurd h
 
 pub settled_left : (i : Instr) (x : Next) (n : ℕ) (s u : Entries) → Ends i x s u → s.top.kind ≡ InMethod → IsLeft (settled_flow x) s.top.number n (settled x n u)
 settled_left i Go n s u h k = (record { frame = h.frame.kind ∙ k; number = h.frame.number }, refl)
@@ -116,7 +121,17 @@ quiet_tells follows m p w i x s t o h ts k = subst (λ (us : List Touch). follow
 pub ready_as : {M : Type 0} (t u : Row Entries) (p : Program) (program : M → Program) (world : M → World) (m : M) (s : Entries) → t ≡ u → IsReady t p program world m s → IsReady u p program world m s
 ready_as t u p program world m s e h = subst (λ (r : Row Entries). IsReady r p program world m s) e h
 
-pub flow_as : {M : Type 0} (t u : Row Entries) (program : M → Program) (world : M → World) (follows : M → Trace → List Touch → Type 0) (m n : M) (s s' : Entries) (left left' : ℕ) (x : Next) (y : Flow) → t ≡ u → next_of y ≡ x → EndsFlow u program world follows m n s left (Other x) s' left' → EndsFlow t program world follows m n s left y s' left'
-flow_as t u program world follows m n s s' left left' x y e k h =
-    subst (λ (r : Row Entries). EndsFlow r program world follows m n s left y s' left') (sym e)
-    (subst (λ (z : Next). EndsFlow u program world follows m n s left (Other z) s' left') (sym k) h)
+pub flow_as : {M : Type 0} (t u : Row Entries) (program : M → Program) (world : M → World) (follows : M → Trace → List Touch → Type 0) (m n : M) (s s' : Entries) (left left' : ℕ) (x : Next) (y : Flow) → t ≡ u → next_of y ≡ x → left_behind y left' ≡ left' → EndsFlow u program world follows m n s left (Other x) s' left' → EndsFlow t program world follows m n s left y s' (left_behind y left')
+flow_as t u program world follows m n s s' left left' x y e k c h =
+    subst (λ (l : ℕ). EndsFlow t program world follows m n s left y s' l) (sym c)
+    (subst (λ (r : Row Entries). EndsFlow r program world follows m n s left y s' left') (sym e)
+    (subst (λ (z : Next). EndsFlow u program world follows m n s left (Other z) s' left') (sym k) h))
+
+-- a row that goes on counts at least the 1 of its step
+pub row_falls : {M : Type 0} (program : M → Program) (world : M → World) (t : Row Entries) (m n : M) (s s' : Entries) (left left' : ℕ) (x : Next) → x ≡ Go → Refines t (program m) (world m) s left x s' (world n) left' → left' < left
+row_falls program world t m n s s' left left' x e h =
+    let a : counted (spend 1 (t (program m) s)) (world m) left ≡ ended (answer Go s') (world n) left' = subst (λ (z : Next). Refines t (program m) (world m) s left z s' (world n) left') e h in
+    let z = ended_so (run (spend 1 (t (program m) s)) (world m)) left (answer Go s') (world n) left' (sym (counted_is (spend 1 (t (program m) s)) (world m) left) ∙ a) in
+    let u = z.units in
+    let v = z.within in
+    omega arith

@@ -1,5 +1,5 @@
 -- Steps of a test, one after the other.
-use Rattle.std.specs.Prelude.{◌≡◌, ◌≢◌, ◌<◌, ◌+◌, ℕ, suc, Result, IfOk, List, ◌∷◌, length, drop, Bool, true, false, Some, None, IsSome}
+use Rattle.std.specs.Prelude.{◌≡◌, ◌≢◌, ◌<◌, ◌-◌, ℕ, suc, Result, IfOk, List, ◌∷◌, length, drop, Bool, true, false, Some, None, IsSome}
 use Rattle.jvm_model.specs.declared.library.Native.TheVariants as native
 use Rattle.jvm_model.specs.declared.values.{Touch.Touch, Value.Value}
 use Rattle.jvm_model.specs.declared.instr.Instr.{Instr}
@@ -144,7 +144,7 @@ next_of (Call m) = Enter m
 next_of (Other x) = x
 
 -- How a form that answered this leaves the entry at the top, where it touches nothing: it goes on at the next instruction,
--- at this place, and the 1 stays counted; else all is as the form left it, and the 1 is left again.
+-- at this place, or all is as the form left it.
 abbrev pub settled_flow : Next → Flow
 settled_flow Go = FallThrough
 settled_flow x = Other x
@@ -153,9 +153,19 @@ abbrev pub settled : Next → ℕ → Entries → Entries
 settled Go n s = with_place s n
 settled x n s = s
 
-abbrev pub settled_units : Next → ℕ → ℕ
-settled_units Go left = left
-settled_units x left = left + 1
+-- what is left once the 1 of the step is counted behind a row that went on in its method; any other row counts it by itself
+abbrev pub left_behind : Flow → ℕ → ℕ
+left_behind FallThrough left = left - 1
+left_behind Jump left = left - 1
+left_behind (Call m) left = left
+left_behind (Other x) left = left
+
+-- where it is counted then, it is there
+abbrev pub HasOne : Flow → ℕ → Type 0
+HasOne FallThrough left = 0 < left
+HasOne Jump left = 0 < left
+HasOne (Call m) left = Unit {0}
+HasOne (Other x) left = Unit {0}
 
 -- over a memory a row leaves the entry at the top so, and the memory follows its touches
 abbrev pub EndsFlow : {M : Type 0} → Row Entries → (M → Program) → (M → World) → (M → Trace → List Touch → Type 0) → M → M
@@ -168,3 +178,9 @@ abbrev pub MakesFlow : {M E : Type 0} → Row Entries → (M → Program) → (M
     → Entries → ℕ → Result Flow E → Entries → ℕ → Type 0
 MakesFlow t program world follows old new s left r s' left' =
     (program new ≡ program old) × IfOk r (λ x. EndsFlow t program world follows old new s left x s' left')
+
+-- the same, once the 1 of a row that went on in its method is counted behind it
+abbrev pub MakesUncounted : {M E : Type 0} → Row Entries → (M → Program) → (M → World) → (M → Trace → List Touch → Type 0) → M → M
+    → Entries → ℕ → Result Flow E → Entries → ℕ → Type 0
+MakesUncounted t program world follows old new s left r s' left' = (program new ≡ program old)
+    × IfOk r (λ x. EndsFlow t program world follows old new s left x s' (left_behind x left') × HasOne x left')

@@ -5,7 +5,7 @@ ghost use Rattle.jvm_model.specs.declared.state.EntryKind.TheVariants.{InMethod}
 ghost use Rattle.jvm_model.specs.{Entries.Entries, Classes.form_at, Classes.method_at, Linked.Linked};
 ghost use Rattle.jvm_model.specs.declared.library.Native.TheVariants as native;
 ghost use Rattle.jvm_model.specs.Step as steps;
-ghost use Rattle.vm_interp.specs.Dispatching.{RunsSlice, EndsInit, EndsWithRow, HasObject, IsAtForm, IsInCode, IsRest, MakesFlow, Dispatches, Stands, StaysAt, StepsOn, next_of, place_behind};
+ghost use Rattle.vm_interp.specs.Dispatching.{RunsSlice, EndsInit, EndsWithRow, HasObject, HasOne, IsAtForm, IsInCode, IsRest, MakesFlow, Dispatches, Stands, StaysAt, StepsOn, left_behind, next_of, place_behind};
 ghost use Rattle.vm_interp.specs.declared.flow.Flow.TheVariants.{FallThrough};
 ghost use Rattle.vm_interp.specs.{Reaching.CanStep, Abs.abs, Turns.AreOf, Turns.as_step_outcome};
 
@@ -173,8 +173,8 @@ fn dispatch_loop<'p, M: Memory>(
     Ok(Next::Over)
 }
 
-/// Makes the row of the instruction at the top, the first of these of its method's code. The 1 of its step is counted
-/// before, in one place for all forms.
+/// Makes the row of the instruction at the top, the first of these of its method's code. Where it goes on in its method, the
+/// 1 of its step is counted behind it, in one place for all forms.
 #[inline(always)]
 fn row_at<M: Memory>(
     stack: &mut FrameStack,
@@ -201,7 +201,6 @@ fn row_at<M: Memory>(
     let rest = cursor.rest;
     let placed = &rest[0];
     stack.set_pc(placed.pc);
-    *left -= 1;
     let flow = hot_row(
         stack,
         memory,
@@ -211,7 +210,20 @@ fn row_at<M: Memory>(
         cursor,
         left,
     )?;
+    count_behind(flow, left);
     Ok(flow)
+}
+
+/// Counts the 1 of the step of a row that went on in its method.
+#[inline(always)]
+fn count_behind(flow: Flow, left: &mut u64)
+    requires { HasOne flow left.old }
+    ensures { left.new ≡ left_behind flow left.old }
+{
+    match flow {
+        Flow::FallThrough | Flow::Jump => *left -= 1,
+        Flow::Call { .. } | Flow::Other(_) => {}
+    }
 }
 
 /// The instruction at which a row left the top, where its step ends with it.

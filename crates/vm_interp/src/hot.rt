@@ -1,7 +1,8 @@
 //! The rows of instructions in one flat match, so that one jump finds each: those that run often, and apart the others.
 
-ghost use Rattle.std.specs.Prelude.{◌≡◌, ◌<◌, ◌+◌, ◌^◌, ℕ, IfOk, Some, cond, length};
+ghost use Rattle.std.specs.Prelude.{◌≡◌, ◌<◌, ℕ, IfOk, Some, cond, length};
 ghost use Rattle.jvm_model.specs.declared.instr.Instr.TheVariants as form;
+ghost use Rattle.jvm_model.specs.declared.outcome.Next.TheVariants.{Go};
 ghost use Rattle.jvm_model.specs.{Classes.form_at, Entries.Entries, Entries.with_place};
 ghost use Rattle.jvm_model.specs.Step as steps;
 ghost use Rattle.vm_frames.specs.Stack.{HasIntOnTop, HasRoom};
@@ -9,7 +10,7 @@ ghost use Rattle.vm_mem.specs.Refines.{IsNext, IsReady};
 ghost use Rattle.jvm_model.specs.declared.state.EntryKind.TheVariants.{InMethod};
 ghost use Rattle.vm_interp.specs.declared.flow.Flow.TheVariants.{Jump, FallThrough};
 ghost use Rattle.vm_arith.specs.Pure.{Ends, HasRow};
-ghost use Rattle.vm_interp.specs.Dispatching.{CanRun, IsLeft, MakesFlow, next_of, place_behind, settled, settled_flow, settled_units};
+ghost use Rattle.vm_interp.specs.Dispatching.{CanRun, IsLeft, HasOne, MakesUncounted, left_behind, next_of, place_behind, settled, settled_flow};
 ghost use Rattle.check_sound.specs.ReachLaw.{puts};
 ghost use Rattle.vm_interp.specs.{Reaching.HasPlaceBelow, Reaching.HasSpace, Rows.IsOnObject, Rows.form_row};
 ghost use Rattle.vm_calls.specs.Calls.{object_row};
@@ -37,8 +38,8 @@ use vm_objects::{
 use vm_tables::Tables;
 
 /// Makes the row of an instruction that was found, at its place in its method's code. Those that run often are made
-/// here, and the others apart. The place of the next one is read only where it's asked for. The 1 of its step
-/// is counted already.
+/// here, and the others apart. The place of the next one is read only where it's asked for. Where the row goes on in its
+/// method, the 1 of its step is left to be counted behind it.
 #[inline(always)]
 #[tactic(auto, unfolding(jvm_model::specs::Step::row_here))]
 pub fn hot_row<M: Memory>(
@@ -58,9 +59,9 @@ pub fn hot_row<M: Memory>(
     requires row { IsReady steps.row_here tables.now M.program M.world memory.old stack.old }
     requires can { CanRun form.now stack.old }
     requires frame { stack.old.top.kind ≡ InMethod }
-    requires units { left.old + 1 < 2 ^ 64 }
-    ensures made { MakesFlow steps.row_here M.program M.world M.follows
-        memory.old memory.new stack.old (left.old + 1) result stack.new left.new }
+    requires units { 0 < left.old }
+    ensures made { MakesUncounted steps.row_here M.program M.world M.follows
+        memory.old memory.new stack.old left.old result stack.new left.new }
     ensures left { IfOk result (λ x. IsLeft x stack.old.top.number
         (place_behind cursor.entry.body.now cursor.entry.rest.now) stack.new) }
     ensures kept { selections.new ≡ selections.old }
@@ -88,9 +89,9 @@ fn hot_form<M: Memory>(
     requires row { IsReady (form_row form.now) tables.now M.program M.world memory.old stack.old }
     requires can { CanRun form.now stack.old }
     requires frame { stack.old.top.kind ≡ InMethod }
-    requires units { left.old + 1 < 2 ^ 64 }
-    ensures made { MakesFlow (form_row form.now) M.program M.world M.follows
-        memory.old memory.new stack.old (left.old + 1) result stack.new left.new }
+    requires units { 0 < left.old }
+    ensures made { MakesUncounted (form_row form.now) M.program M.world M.follows
+        memory.old memory.new stack.old left.old result stack.new left.new }
     ensures left { IfOk result (λ x. IsLeft x stack.old.top.number
         (place_behind cursor.entry.body.now cursor.entry.rest.now) stack.new) }
     ensures kept { selections.new ≡ selections.old }
@@ -156,7 +157,7 @@ fn hot_form<M: Memory>(
             and_ints(stack);
             Ok(fall_through(stack, cursor))
         }
-        Instr::Binary { op, wide } => calculate(stack, memory, *op, *wide, cursor, left),
+        Instr::Binary { op, wide } => calculate(stack, memory, *op, *wide, cursor, *left),
         Instr::Neg { wide: false } => {
             neg_int(stack);
             Ok(fall_through(stack, cursor))
@@ -196,99 +197,82 @@ fn hot_form<M: Memory>(
         Instr::GetField { field, .. } => {
             let method = stack.number();
             let next = place_after(cursor);
-            uncount(left);
+            let before = *left;
             let answer = get_field(stack, memory, *field, next, left)?;
-            Ok(classify_flow(answer, stack, method, next))
+            Ok(classify_flow(answer, stack, method, next, before, left))
         }
         Instr::PutField { field, .. } => {
             let method = stack.number();
             let next = place_after(cursor);
-            uncount(left);
+            let before = *left;
             let answer = put_field(stack, memory, tables, *field, next, left)?;
-            Ok(classify_flow(answer, stack, method, next))
+            Ok(classify_flow(answer, stack, method, next, before, left))
         }
         Instr::ArrayLength => {
             let method = stack.number();
             let next = place_after(cursor);
-            uncount(left);
+            let before = *left;
             let answer = array_length(stack, memory, next, left)?;
-            Ok(classify_flow(answer, stack, method, next))
+            Ok(classify_flow(answer, stack, method, next, before, left))
         }
         Instr::ArrayLoad { .. } => {
             let method = stack.number();
             let next = place_after(cursor);
-            uncount(left);
+            let before = *left;
             let answer = array_load(stack, memory, next, left)?;
-            Ok(classify_flow(answer, stack, method, next))
+            Ok(classify_flow(answer, stack, method, next, before, left))
         }
         Instr::ArrayStore {
             of: Cell::Int | Cell::Long | Cell::Byte | Cell::Char | Cell::Short,
         } => {
             let method = stack.number();
             let next = place_after(cursor);
-            uncount(left);
+            let before = *left;
             let answer = array_store_number(stack, memory, next, left)?;
-            Ok(classify_flow(answer, stack, method, next))
+            Ok(classify_flow(answer, stack, method, next, before, left))
         }
         Instr::GetStatic { field } => {
             let method = stack.number();
             let next = place_after(cursor);
-            uncount(left);
+            let before = *left;
             let answer = get_static(stack, memory, tables, *field, next, left)?;
-            Ok(classify_flow(answer, stack, method, next))
+            Ok(classify_flow(answer, stack, method, next, before, left))
         }
         Instr::PutStatic { field } => {
             let method = stack.number();
             let next = place_after(cursor);
-            uncount(left);
+            let before = *left;
             let answer = put_static(stack, memory, tables, *field, next, left)?;
-            Ok(classify_flow(answer, stack, method, next))
+            Ok(classify_flow(answer, stack, method, next, before, left))
         }
         Instr::New { class } => {
             let method = stack.number();
             let next = place_after(cursor);
-            uncount(left);
+            let before = *left;
             let answer = new_object(stack, memory, tables, *class, next, left)?;
-            Ok(classify_flow(answer, stack, method, next))
+            Ok(classify_flow(answer, stack, method, next, before, left))
         }
         Instr::InvokeStatic { method } => {
-            uncount(left);
             let answer = invoke_static(stack, memory, tables, *method, left)?;
-            Ok(called(answer))
+            Ok(called(answer, *left))
         }
         Instr::InvokeSpecial { named, method } => {
-            uncount(left);
             let answer = invoke_special(stack, memory, tables, selections, *named, *method, left)?;
-            Ok(called(answer))
+            Ok(called(answer, *left))
         }
         Instr::InvokeVirtual { .. } | Instr::InvokeInterface { .. } => {
-            uncount(left);
             call_on_object(stack, memory, tables, selections, form, left)
         }
         Instr::Return { of: Some(of) } => {
-            uncount(left);
             let answer = give_back(stack, memory, tables, Some(*of), left)?;
             Ok(Flow::Other(answer))
         }
         Instr::Return { of: None } => {
-            uncount(left);
             let answer = return_nothing(stack, memory, tables, left)?;
             Ok(Flow::Other(answer))
         }
-        _ => {
-            uncount(left);
-            row_apart(stack, memory, tables, selections, form, left)
-        }
+        _ => { row_apart(stack, memory, tables, selections, form, left) }
     }
-}
-
-/// Leaves the 1 of a step again that was counted before, where the row counts it by itself.
-#[inline(always)]
-fn uncount(left: &mut u64)
-    requires { left.old + 1 < 2 ^ 64 }
-    ensures { left.new ≡ left.old + 1 }
-{
-    *left += 1;
 }
 
 /// Goes on at the next instruction.
@@ -305,27 +289,27 @@ fn fall_through(stack: &mut FrameStack, cursor: InstrCursor<'_>) -> Flow
 
 /// Takes two numbers and puts what the operation gives of them, or throws where it divides by 0.
 #[inline(always)]
-#[tactic(auto, using(crate::proofs::Found::settled_meets, crate::proofs::Found::settled_left, crate::proofs::Found::quiet_tells))]
+#[tactic(auto, using(crate::proofs::Found::settled_meets, crate::proofs::Found::settled_left, crate::proofs::Found::settled_one, crate::proofs::Found::quiet_tells))]
 fn calculate<M: Memory>(
     stack: &mut FrameStack,
     _memory: &mut M,
     op: Op,
     wide: bool,
     cursor: InstrCursor<'_>,
-    left: &mut u64,
+    _left: u64,
 ) -> Result<Flow, NoMemory>
     requires place { IsNext (M.program _memory.old) stack.old
         (place_behind cursor.body.now cursor.rest.now) }
     requires row { HasRow (form.Binary op wide) stack.old }
     requires frame { stack.old.top.kind ≡ InMethod }
-    requires units { left.old + 1 < 2 ^ 64 }
-    ensures made { MakesFlow (form_row (form.Binary op wide)) M.program M.world M.follows
-        _memory.old _memory.new stack.old (left.old + 1) result stack.new left.new }
+    requires units { 0 < _left }
+    ensures made { MakesUncounted (form_row (form.Binary op wide)) M.program M.world M.follows
+        _memory.old _memory.new stack.old _left result stack.new _left }
     ensures left { IfOk result (λ x. IsLeft x stack.old.top.number
         (place_behind cursor.entry.body.now cursor.entry.rest.now) stack.new) }
 {
     let answer = binary(stack, op, wide);
-    Ok(settle(answer, stack, cursor, left))
+    Ok(settle(answer, stack, cursor))
 }
 
 /// Takes two numbers of a type and puts what the operation gives of them.
@@ -341,19 +325,16 @@ fn binary(stack: &mut FrameStack, op: Op, wide: bool) -> Next
     }
 }
 
-/// Goes on at the next instruction, where a form that touches nothing answered so; else it leaves the 1 of the step again.
+/// Goes on at the next instruction, where a form that touches nothing answered so.
 #[inline(always)]
-fn settle(answer: Next, stack: &mut FrameStack, cursor: InstrCursor<'_>, left: &mut u64) -> Flow
-    requires { left.old + 1 < 2 ^ 64 }
+fn settle(answer: Next, stack: &mut FrameStack, cursor: InstrCursor<'_>) -> Flow
     ensures flow { result ≡ settled_flow answer }
     ensures entries { stack.new
         ≡ settled answer (place_behind cursor.entry.body.now cursor.entry.rest.now) stack.old }
-    ensures counted { left.new ≡ settled_units answer left.old }
 {
     match answer {
         Next::Go => fall_through(stack, cursor),
         Next::Fault { .. } | Next::Raise(_) | Next::Enter { .. } | Next::Leave | Next::Over => {
-            uncount(left);
             Flow::Other(answer)
         }
     }
@@ -371,8 +352,9 @@ fn switch_by_table<M: Memory>(
 ) -> Result<Flow, NoMemory>
     requires row { HasIntOnTop stack.old.top.stack }
     requires frame { stack.old.top.kind ≡ InMethod }
-    ensures made { MakesFlow (form_row (form.Table low targets.now other)) M.program M.world
-        M.follows _memory.old _memory.new stack.old (_left + 1) result stack.new _left }
+    requires units { 0 < _left }
+    ensures made { MakesUncounted (form_row (form.Table low targets.now other)) M.program M.world
+        M.follows _memory.old _memory.new stack.old _left result stack.new _left }
     ensures left { IfOk result (λ x. (next : ℕ) → IsLeft x stack.old.top.number next stack.new) }
 {
     let to = table_switch(stack, low, targets, other);
@@ -391,8 +373,9 @@ fn switch_by_lookup<M: Memory>(
 ) -> Result<Flow, NoMemory>
     requires row { HasIntOnTop stack.old.top.stack }
     requires frame { stack.old.top.kind ≡ InMethod }
-    ensures made { MakesFlow (form_row (form.Lookup pairs.now other)) M.program M.world
-        M.follows _memory.old _memory.new stack.old (_left + 1) result stack.new _left }
+    requires units { 0 < _left }
+    ensures made { MakesUncounted (form_row (form.Lookup pairs.now other)) M.program M.world
+        M.follows _memory.old _memory.new stack.old _left result stack.new _left }
     ensures left { IfOk result (λ x. (next : ℕ) → IsLeft x stack.old.top.number next stack.new) }
 {
     let to = lookup_switch(stack, pairs, other);
@@ -420,16 +403,28 @@ fn aside_if(taken: bool) -> Flow
     if taken { Flow::Jump } else { Flow::FallThrough }
 }
 
-/// How a row that answered this left an entry, where the next instruction of this method has this place.
+/// How a row that answered this left an entry, where the next instruction of this method has this place, and what was left
+/// before the row. Where it goes on there, the 1 that the row counted is left again, to be counted behind it.
 #[inline(always)]
-fn classify_flow(answer: Next, stack: &FrameStack, method: u32, next: u32) -> Flow
+fn classify_flow(
+    answer: Next,
+    stack: &FrameStack,
+    method: u32,
+    next: u32,
+    _before: u64,
+    left: &mut u64,
+) -> Flow
+    requires counted { answer ≡ Go → left.old < _before }
     ensures answered { next_of result ≡ answer }
     ensures left { IsLeft result method next stack.now }
+    ensures again { left_behind result left.new ≡ left.old }
+    ensures one { HasOne result left.new }
 {
     match answer {
         Next::Go => match stack.kind() {
             EntryKind::InMethod => {
                 if stack.number() == method && stack.pc() == next {
+                    *left += 1;
                     Flow::FallThrough
                 } else {
                     Flow::Other(answer)
@@ -454,14 +449,14 @@ fn call_on_object<M: Memory>(
     requires form { IsOnObject form.now }
     requires selections { selections.old ≡ tables.now }
     requires row { IsReady (form_row form.now) tables.now M.program M.world memory.old stack.old }
-    ensures made { MakesFlow (form_row form.now) M.program M.world M.follows
+    ensures made { MakesUncounted (form_row form.now) M.program M.world M.follows
         memory.old memory.new stack.old left.old result stack.new left.new }
     ensures left { IfOk result (λ x. (method next : ℕ) (s : Entries) → IsLeft x method next s) }
     ensures kept { selections.new ≡ selections.old }
 {
     let (interface, method) = called_on_object(form);
     let answer = invoke_on_object(stack, memory, tables, selections, interface, method, left)?;
-    Ok(called(answer))
+    Ok(called(answer, *left))
 }
 
 /// The interface that a call on an object names, None where it names a class, and the method.
@@ -478,11 +473,13 @@ fn called_on_object(form: &Instr) -> (Option<u32>, u32)
     }
 }
 
-/// How a call left the entries that answered this.
+/// How a call left the entries that answered this, and so many units.
 #[inline(always)]
-fn called(answer: Next) -> Flow
+fn called(answer: Next, _left: u64) -> Flow
     ensures answered { next_of result ≡ answer }
     ensures left { (method next : ℕ) (s : Entries) → IsLeft result method next s }
+    ensures counted { left_behind result _left ≡ _left }
+    ensures one { HasOne result _left }
 {
     match answer {
         Next::Enter { method } => Flow::Call { method },
@@ -505,7 +502,7 @@ fn row_apart<M: Memory>(
     requires room { HasRoom (puts form.now) stack.old }
     requires below { HasPlaceBelow form.now stack.old }
     requires row { IsReady (form_row form.now) tables.now M.program M.world memory.old stack.old }
-    ensures made { MakesFlow (form_row form.now) M.program M.world M.follows
+    ensures made { MakesUncounted (form_row form.now) M.program M.world M.follows
         memory.old memory.new stack.old left.old result stack.new left.new }
     ensures left { IfOk result (λ x. (method next : ℕ) (s : Entries) → IsLeft x method next s) }
     ensures kept { selections.new ≡ selections.old }

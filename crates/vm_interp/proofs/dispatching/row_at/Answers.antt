@@ -1,9 +1,9 @@
-use Rattle.std.proofs.Common.{◌≡◌, ◌+◌, ◌-◌, ℕ, Some, sym, subst, arith}
+use Rattle.std.proofs.Common.{◌≡◌, ℕ, Some, sym, subst}
 use Rattle.jvm_model.specs.declared.state.EntryKind.TheVariants.{InMethod}
 use Rattle.jvm_model.specs.Classes.{form_at, method_at, next_place}
 use Rattle.jvm_model.specs.{Entries.Entries, Step.row_here}
 use Rattle.vm_mem.specs.Refines.{IsReady}
-use Rattle.vm_interp.specs.Dispatching.{CanRun, EndsFlow, place_behind}
+use Rattle.vm_interp.specs.Dispatching.{CanRun, EndsFlow, left_behind, place_behind}
 use Rattle.vm_interp.specs.{Reaching.HasSpace, Abs.abs}
 use Rattle.vm_interp.proofs.{Found.can_run, Found.row_safe, Onward.placed_again}
 use Rattle.vm_interp.proofs.Numbered.{left_in, looked_up, rest_some, stands_form, stands_next, stands_pc}
@@ -26,7 +26,7 @@ hot_row-requires g c =
       can = subst (λ (e : Entries). CanRun c.index-rest-0.result.form e) (sym same)
           (can_run c.args.tables.now (record (abs c.args._state.now) { entries = c.args.stack.now }) (g.M.Memory.world c.args.memory.now) c.requires.can c.requires.stands.code.frame c.requires.quiet c.index-rest-0.result.form found);
       frame = subst (λ (e : Entries). e.top.kind ≡ InMethod) (sym same) c.requires.stands.code.frame;
-      units = let u = c.requires.units in omega arith;
+      units = c.requires.units;
     }
 
 pub returns : goal.returns
@@ -37,8 +37,8 @@ returns g c =
     record {
       made = (
         c.in_ok-flow.ensures.made.0,
-        subst (λ (n : ℕ). EndsFlow row_here g.M.Memory.program g.M.Memory.world g.M.Memory.follows c.args.memory.now c.hot_row.new.memory c.args.stack.now n c.in_ok-flow.flow c.hot_row.new.stack c.hot_row.new.left) (let u = c.requires.units in omega arith)
-            (subst (λ (e : Entries). EndsFlow row_here g.M.Memory.program g.M.Memory.world g.M.Memory.follows c.args.memory.now c.hot_row.new.memory e (c.args.left.now - 1 + 1) c.in_ok-flow.flow c.hot_row.new.stack c.hot_row.new.left) same c.in_ok-flow.ensures.made.1),
+        subst (λ (n : ℕ). EndsFlow row_here g.M.Memory.program g.M.Memory.world g.M.Memory.follows c.args.memory.now c.hot_row.new.memory c.args.stack.now c.args.left.now c.in_ok-flow.flow c.hot_row.new.stack n) (sym c.count_behind.ensures)
+            (subst (λ (e : Entries). EndsFlow row_here g.M.Memory.program g.M.Memory.world g.M.Memory.follows c.args.memory.now c.hot_row.new.memory e c.args.left.now c.in_ok-flow.flow c.hot_row.new.stack (left_behind c.in_ok-flow.flow c.hot_row.new.left)) same c.in_ok-flow.ensures.made.1.0),
       );
       left = left_in c.args.tables.now c.args.cursor.body.now c.set_pc.new.self.top.number (place_behind c.args.cursor.body.now c.args.cursor.rest.now) c.hot_row.new.stack c.in_ok-flow.flow own c.in_ok-flow.ensures.left;
       kept = c.hot_row.ensures.kept;

@@ -10,7 +10,10 @@ invoke_on_object-requires-clause-row g c = ready_as (form_row c.args.form.now) (
 pub returns-clause-made : goal.returns-clause-made
 returns-clause-made g c = (
   c.in_ok-answer.ensures.made.0,
-  flow_as (form_row c.args.form.now) (object_row c.called_on_object-interface.result.0 c.called_on_object-interface.result.1)
-      g.M.Memory.program g.M.Memory.world g.M.Memory.follows c.args.memory.now c.invoke_on_object.new.memory c.args.stack.now c.invoke_on_object.new.stack c.args.left.now c.invoke_on_object.new.left
-      c.in_ok-answer.answer c.called.result c.called_on_object-interface.ensures c.called.ensures.answered c.in_ok-answer.ensures.made.1,
+  (
+    flow_as (form_row c.args.form.now) (object_row c.called_on_object-interface.result.0 c.called_on_object-interface.result.1)
+        g.M.Memory.program g.M.Memory.world g.M.Memory.follows c.args.memory.now c.invoke_on_object.new.memory c.args.stack.now c.invoke_on_object.new.stack c.args.left.now c.invoke_on_object.new.left
+        c.in_ok-answer.answer c.called.result c.called_on_object-interface.ensures c.called.ensures.answered c.called.ensures.counted c.in_ok-answer.ensures.made.1,
+    c.called.ensures.one,
+  ),
 )
