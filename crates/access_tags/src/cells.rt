@@ -4,9 +4,11 @@ ghost use Rattle.std.specs.Prelude.{◌≡◌, ◌+◌, ◌<◌, ◌≤◌, ◌^
 ghost use Rattle.order_law.specs.declared.edges.EdgeKind.TheVariants as kinds;
 ghost use Rattle.access_tags.specs.Tag.{conflict, conflicts_at, no_mark, with_writer};
 ghost use Rattle.access_tags.specs.Counted.{HaveCounted};
+ghost use Rattle.access_tags.specs.Intervals.{part_at};
 ghost use Rattle.access_tags.specs.Cells.{AreCells, AreDown, AreFresh, IsLinked, chain, no_past, tag_by};
 
 use crate::conflict::{Conflict, LocationKey};
+use crate::interval::Interval;
 use crate::mark::{Mark, Past, Reader};
 use crate::table::Table;
 use cell_region::Region;
@@ -94,32 +96,41 @@ impl Cells {
         old.is_new()
     }
 
-    /// Counts the conflicts at a location, which is shown as `place`.
+    /// Counts the conflicts at a location, which is shown as the part of an interval with an index.
     #[inline(always)]
-    pub fn count_at(&self, at: u64, place: LocationKey, table: &mut Table) -> Result<(), NoMemory>
+    pub fn count_at(
+        &self,
+        at: u64,
+        interval: Interval,
+        index: u32,
+        table: &mut Table,
+    ) -> Result<(), NoMemory>
         requires { at < count self.now }
-        ensures { OnOk result (HaveCounted table.old table.new (conflicts_at place (tag_in self.now at))) }
+        ensures { let place = (part_at interval index).spot in let tag = tag_in self.now at in
+            OnOk result (HaveCounted table.old table.new (conflicts_at place tag)) }
     {
         if at >= self.pasts.len() {
             return Ok(());
         }
         let past = self.pasts.get(at);
         let mark = self.marks.get(at);
-        count_past(table, &self.readers, mark, past, place)
+        count_past(table, &self.readers, mark, past, interval, index)
     }
 
-    /// The running test, with this number, ended: its conflicts at a location, which is shown as `place`, are counted, and
-    /// what it did there joins what earlier tests did.
+    /// The running test, with this number, ended: its conflicts at a location, which is shown as the part of an interval with
+    /// an index, are counted, and what it did there joins what earlier tests did.
     #[inline(always)]
     pub fn end_at(
         &mut self,
         at: u64,
-        place: LocationKey,
+        interval: Interval,
+        index: u32,
         test: u32,
         table: &mut Table,
     ) -> Result<(), NoMemory>
         requires { at < count self.old }
-        ensures counted { OnOk result (HaveCounted table.old table.new (conflicts_at place (tag_in self.old at))) }
+        ensures counted { let place = (part_at interval index).spot in let tag = tag_in self.old at in
+            OnOk result (HaveCounted table.old table.new (conflicts_at place tag)) }
         ensures count { count self.new ≡ count self.old }
         ensures tags { OnOk result ((l : ℕ) → tag_in self.new l
             ≡ cond (nat_eq l at) (ended test (tag_in self.old at)) (tag_in self.old l)) }
@@ -127,7 +138,7 @@ impl Cells {
         self.reach(at)?;
         let mark = self.marks.get(at);
         let past = self.pasts.get(at);
-        count_past(table, &self.readers, mark, past, place)?;
+        count_past(table, &self.readers, mark, past, interval, index)?;
         self.settle(at, test, mark, past)?;
         Ok(())
     }
@@ -192,23 +203,27 @@ impl Cells {
     }
 }
 
-/// Counts the conflicts at a location of a test that left this mark there with the tests before it.
+/// Counts the conflicts at the part of an interval with an index, of a test that left this mark there with the tests before
+/// it. The part is made only where there are such tests.
 #[inline(always)]
 fn count_past(
     table: &mut Table,
     readers: &Region<Reader>,
     mark: Mark,
     past: Past,
-    place: LocationKey,
+    interval: Interval,
+    index: u32,
 ) -> Result<(), NoMemory>
     requires down { AreDown readers.now }
     requires first { past.readers ≤ length readers.now }
-    ensures { OnOk result (HaveCounted table.old table.new
-        (conflicts_at place (tag_by past (reverse readers.now) mark))) }
+    ensures { let place = (part_at interval index).spot in
+        let tag = tag_by past (reverse readers.now) mark in
+        OnOk result (HaveCounted table.old table.new (conflicts_at place tag)) }
 {
     if past.is_none() {
         return Ok(());
     }
+    let place = interval.spot(index);
     if mark.exposed {
         count_writer(table, EdgeKind::Raw, place, past.writer)?;
     }

@@ -140,9 +140,26 @@ impl Interval {
         ensures { result ≡ part_at self index }
     {
         Touched {
-            spot: self.sort.spot(self.object, index),
-            at: self.at as u64 + (index - self.first) as u64,
+            spot: self.spot(index),
+            at: self.number(index),
         }
+    }
+
+    /// The part with an index.
+    #[inline(always)]
+    pub fn spot(self, index: u32) -> LocationKey
+        ensures { result ≡ (part_at self index).spot }
+    {
+        self.sort.spot(self.object, index)
+    }
+
+    /// The number of the part with an index.
+    #[inline(always)]
+    pub fn number(self, index: u32) -> u64
+        requires { self.first ≤ index }
+        ensures { result ≡ (part_at self index).at }
+    {
+        self.at as u64 + (index - self.first) as u64
     }
 }
 

@@ -7,12 +7,12 @@ ghost use Rattle.jvm_model.specs.World.{same};
 ghost use Rattle.access_tags.specs.Tag.{Tag, covers, ended, conflicts_at, is_new, noted};
 ghost use Rattle.access_tags.specs.{Counted.HaveCounted, HaveEnded.HaveEnded, Shelf.tag_in, Shelf.count, Within.room, Within.AreWithin, Unread.AreUnread};
 ghost use Rattle.access_tags.specs.Numbering.{Numbering, are_alone, conflicts_in, is_alone, is_name, tag_at};
-ghost use Rattle.access_tags.specs.Intervals.{parts, parts_of};
+ghost use Rattle.access_tags.specs.Intervals.{part_at, parts, parts_of};
 
 use crate::access_log::AccessLog;
 use crate::cells::Cells;
 use crate::conflict::{LocationKey, Touched};
-use crate::interval::Interval;
+use crate::interval::{Interval, Sort};
 use crate::mark::Mark;
 use crate::rows::Row;
 use crate::table::Table;
@@ -264,28 +264,35 @@ fn note(cells: &mut Cells, named: &mut Cells, spot: LocationKey, at: u64, write:
     }
 }
 
-/// Counts the conflicts at a part; then what the test did there joins what earlier tests did.
+/// Counts the conflicts at the part of an interval with an index; then what the test did there joins what earlier tests did.
 #[inline(always)]
 fn end_part(
     cells: &mut Cells,
     named: &mut Cells,
-    part: Touched,
+    interval: Interval,
+    index: u32,
     test: u32,
     table: &mut Table,
 ) -> Result<(), NoMemory>
-    requires { part.at < room cells.old named.old part.spot }
+    requires order { interval.first ≤ index }
+    requires within { let part = part_at interval index in
+        part.at < room cells.old named.old part.spot }
     ensures cells_count { count cells.new ≡ count cells.old }
     ensures named_count { count named.new ≡ count named.old }
-    ensures counted { OnOk result (HaveCounted table.old table.new
-        (conflicts_at part.spot (tag_at (tag_in cells.old) (tag_in named.old) part))) }
-    ensures cells { OnOk result ((l : ℕ) → tag_in cells.new l
-        ≡ cond (not (is_name part.spot) && nat_eq l part.at) (ended test (tag_in cells.old part.at)) (tag_in cells.old l)) }
-    ensures named { OnOk result ((l : ℕ) → tag_in named.new l
-        ≡ cond (is_name part.spot && nat_eq l part.at) (ended test (tag_in named.old part.at)) (tag_in named.old l)) }
+    ensures counted { let part = part_at interval index in
+        let tag = tag_at (tag_in cells.old) (tag_in named.old) part in
+        OnOk result (HaveCounted table.old table.new (conflicts_at part.spot tag)) }
+    ensures cells { let part = part_at interval index in let old = tag_in cells.old in
+        OnOk result ((l : ℕ) → tag_in cells.new l
+        ≡ cond (not (is_name part.spot) && nat_eq l part.at) (ended test (old part.at)) (old l)) }
+    ensures named { let part = part_at interval index in let old = tag_in named.old in
+        OnOk result ((l : ℕ) → tag_in named.new l
+        ≡ cond (is_name part.spot && nat_eq l part.at) (ended test (old part.at)) (old l)) }
 {
-    match part.spot {
-        LocationKey::Named { .. } => named.end_at(part.at, part.spot, test, table),
-        _ => cells.end_at(part.at, part.spot, test, table),
+    let at = interval.number(index);
+    match interval.sort {
+        Sort::Named => named.end_at(at, interval, index, test, table),
+        _ => cells.end_at(at, interval, index, test, table),
     }
 }
 
@@ -324,21 +331,26 @@ fn reads_alone(cells: &Cells, named: &Cells, interval: Interval, field: u32) -> 
     true
 }
 
-/// Counts the conflicts at a part.
+/// Counts the conflicts at the part of an interval with an index.
 #[inline(always)]
 fn count_part(
     cells: &Cells,
     named: &Cells,
-    part: Touched,
+    interval: Interval,
+    index: u32,
     table: &mut Table,
 ) -> Result<(), NoMemory>
-    requires { part.at < room cells.now named.now part.spot }
-    ensures { OnOk result (HaveCounted table.old table.new
-        (conflicts_at part.spot (tag_at (tag_in cells.now) (tag_in named.now) part))) }
+    requires order { interval.first ≤ index }
+    requires within { let part = part_at interval index in
+        part.at < room cells.now named.now part.spot }
+    ensures { let part = part_at interval index in
+        let tag = tag_at (tag_in cells.now) (tag_in named.now) part in
+        OnOk result (HaveCounted table.old table.new (conflicts_at part.spot tag)) }
 {
-    match part.spot {
-        LocationKey::Named { .. } => named.count_at(part.at, part.spot, table),
-        _ => cells.count_at(part.at, part.spot, table),
+    let at = interval.number(index);
+    match interval.sort {
+        Sort::Named => named.count_at(at, interval, index, table),
+        _ => cells.count_at(at, interval, index, table),
     }
 }
 
@@ -369,7 +381,7 @@ fn count_interval(
         return Ok(());
     }
     for index in interval.first..interval.end {
-        count_part(cells, named, interval.part(index), table)?;
+        count_part(cells, named, interval, index, table)?;
     }
     Ok(())
 }
@@ -408,7 +420,7 @@ fn end_interval(
         (tag_in cells.new) (tag_in named.new) table.old table.new (parts_of interval)) }
 {
     for index in interval.first..interval.end {
-        end_part(cells, named, interval.part(index), test, table)?;
+        end_part(cells, named, interval, index, test, table)?;
     }
     Ok(())
 }

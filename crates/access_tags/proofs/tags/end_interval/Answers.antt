@@ -1,6 +1,5 @@
-use Rattle.std.proofs.Common.{◌≡◌, ℕ, [], ◌∷◌, ◌<◌, ◌∙◌, arith, refl, sym, subst}
-use Rattle.access_tags.specs.declared.conflict.Touched.{Touched}
-use Rattle.access_tags.specs.{HaveEnded.HaveEnded, Shelf.tag_in, Intervals.parts_of, Intervals.parts_to, Within.room}
+use Rattle.std.proofs.Common.{◌≡◌, ℕ, ◌∙◌, arith, refl, subst}
+use Rattle.access_tags.specs.{HaveEnded.HaveEnded, Shelf.tag_in, Intervals.part_at, Intervals.parts_of, Intervals.parts_to}
 use Rattle.access_tags.proofs.{More.within_more, Spanned.within_part}
 use Rattle.access_tags.proofs.Parted.{ended_first, ended_one, ended_to}
 use Rattle.access_tags.proofs.tags.end_interval.Goals as goal
@@ -10,12 +9,12 @@ loop-index-init c =
     let o = c.args in
     (refl, refl, refl, ended_first o.test (tag_in o.cells.now) (tag_in o.named.now) o.table.now o.interval)
 
-pub end_part-requires : goal.end_part-requires
-end_part-requires c =
+pub end_part-requires-clause-within : goal.end_part-requires-clause-within
+end_part-requires-clause-within c =
     let o = c.args in
     let l = c.loop-index in
     let a = within_more (parts_of o.interval) o.cells.now l.cells o.named.now l.named (omega (arith, l.invariant.0)) (omega (arith, l.invariant.1)) c.requires.within in
-    subst (λ (x : Touched). x.at < room l.cells l.named x.spot) (sym c.part.ensures) (within_part l.cells l.named o.interval l.index a l.auto.index c.loop-index-test.true)
+    within_part l.cells l.named o.interval l.index a l.auto.index c.loop-index-test.true
 
 pub loop-index-preserved : goal.loop-index-preserved
 loop-index-preserved c =
@@ -23,12 +22,11 @@ loop-index-preserved c =
     let l = c.loop-index in
     let n = c.end_part.new in
     let e = c.in_ok-end_part.ensures in
-    let one = ended_one o.test (tag_in l.cells) (tag_in l.named) (tag_in n.cells) (tag_in n.named) l.table n.table c.part.result e.cells e.named e.counted in (
+    let one = ended_one o.test (tag_in l.cells) (tag_in l.named) (tag_in n.cells) (tag_in n.named) l.table n.table (part_at o.interval l.index) e.cells e.named e.counted in (
       e.cells_count ∙ l.invariant.0,
       e.named_count ∙ l.invariant.1,
       e.counted.later ∙ l.invariant.2,
-      ended_to o.test (tag_in o.cells.now) (tag_in o.named.now) (tag_in l.cells) (tag_in l.named) (tag_in n.cells) (tag_in n.named) o.table.now l.table n.table o.interval l.index l.auto.index l.invariant.3
-          (subst (λ (x : Touched). HaveEnded o.test (tag_in l.cells) (tag_in l.named) (tag_in n.cells) (tag_in n.named) l.table n.table (x ∷ [])) c.part.ensures one),
+      ended_to o.test (tag_in o.cells.now) (tag_in o.named.now) (tag_in l.cells) (tag_in l.named) (tag_in n.cells) (tag_in n.named) o.table.now l.table n.table o.interval l.index l.auto.index l.invariant.3 one,
     )
 
 pub returns-clause-ended : goal.returns-clause-ended
