@@ -31,7 +31,9 @@ impl<'a> Progress<'a> {
         }
     }
 
-    // The seconds that passed where it is time to tell of them; of several threads one gets them.
+    // The seconds that passed where it is time to tell of them; of several threads one gets them. That this and `tell` stand
+    // apart puts the machine's loop, which the program has behind them, where few of its jumps cross 32 bytes.
+    #[inline(never)]
     fn due_seconds(&self) -> Option<u64> {
         let start = self.start?;
         let passed = self.rt.monotonic().ok()?.saturating_sub(start).as_secs();
@@ -45,6 +47,7 @@ impl<'a> Progress<'a> {
         if is_due { Some(passed) } else { None }
     }
 
+    #[inline(never)]
     fn tell(&self, begun: u64, seconds: u64) -> Result<(), NoMemory> {
         let mut line = Text::new(self.rt.alloc());
         line.extend_from_slice(b"electric: ")?;
