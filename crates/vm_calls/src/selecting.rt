@@ -140,6 +140,16 @@ fn kept_among(
     Ok(kept)
 }
 
+/// Of these methods those with code that no interface above another of them declares.
+fn kept_methods(alloc: Global, tables: &Tables, methods: &[u32]) -> Result<Items<u32>, NoMemory>
+    ensures { IfOk result (λ kept. kept ≡ filter (λ n. is_kept tables.now (insert_all nat_eq [] (flat_map (λ m. above_of tables.now m) methods.now)) n) methods.now) }
+{
+    let above = above_methods(alloc, tables, methods)?;
+    let kept = kept_among(alloc, tables.program(), &above, methods);
+    drop(above);
+    kept
+}
+
 /// The one of the kept methods with code.
 fn one_with_code(kept: &[u32]) -> Choice
     ensures { selected_of result ≡ selection.one_with_code kept.now }
@@ -161,10 +171,8 @@ fn one_with_code(kept: &[u32]) -> Choice
 fn kept_method(alloc: Global, tables: &Tables, method: u32, class: u32) -> Result<Choice, NoMemory>
     ensures { IfOk result (λ x. selected_of x ≡ selection.kept_method tables.now method class) }
 {
-    let p = tables.program();
-    let found = open_in(alloc, p, method, tables.interfaces(class))?;
-    let above = above_methods(alloc, tables, found.as_slice())?;
-    let kept = kept_among(alloc, p, &above, found.as_slice())?;
+    let found = open_in(alloc, tables.program(), method, tables.interfaces(class))?;
+    let kept = kept_methods(alloc, tables, found.as_slice())?;
     Ok(one_with_code(kept.as_slice()))
 }
 

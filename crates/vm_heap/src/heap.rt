@@ -40,11 +40,13 @@ impl Heap {
         requires { Linked p.now }
         ensures { IfOk result (λ x. x ≡ record { program = p.now; objects = [] }) }
     {
+        let layouts = Layouts::of(alloc, p)?;
+        let places = FieldPlaces::of(alloc, p)?;
         Ok(Heap {
             headers: Headers::new(alloc),
             cells: Vec::new(alloc),
-            layouts: Layouts::of(alloc, p)?,
-            places: FieldPlaces::of(alloc, p)?,
+            layouts,
+            places,
         })
     }
 

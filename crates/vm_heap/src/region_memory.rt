@@ -1,4 +1,5 @@
-ghost use Rattle.std.specs.Prelude.{◌≡◌, length, IfOk};
+ghost use Rattle.std.specs.Prelude.{◌≡◌, length, map, IfOk};
+ghost use Rattle.jvm_model.specs.declared.values.InitState.TheVariants.{Idle};
 ghost use Rattle.jvm_model.specs.Linked.{Linked};
 ghost use Rattle.jvm_model.specs.Suite as suite;
 
@@ -42,13 +43,17 @@ impl RegionMemory {
         ensures program { IfOk result (λ m. m.program ≡ p.now) }
         ensures world { IfOk result (λ m. m.world ≡ suite.opening p.now) }
     {
+        let (statics, states) = opening_cells(alloc, p)?;
+        let (kept_statics, kept_states) = opening_cells(alloc, p)?;
+        let store = opening_store(alloc, p)?;
+        let heap = Heap::new(alloc, p)?;
         Ok(RegionMemory {
-            heap: Heap::new(alloc, p)?,
-            statics: opening_statics(alloc, p)?,
-            states: opening_states(alloc, p)?,
-            store: Changes::of(alloc, opening_store(alloc, p)?),
-            opening_statics: opening_statics(alloc, p)?,
-            opening_states: opening_states(alloc, p)?,
+            heap,
+            statics,
+            states,
+            store: Changes::of(alloc, store),
+            opening_statics: kept_statics,
+            opening_states: kept_states,
         })
     }
 
@@ -63,6 +68,16 @@ impl RegionMemory {
         set_back(&mut self.statics, &self.opening_statics);
         set_back(&mut self.states, &self.opening_states);
     }
+}
+
+/// The opening values of all fields and the opening states of all classes.
+fn opening_cells(alloc: Global, p: &Program) -> Result<(Vec<Value>, Vec<InitState>), NoMemory>
+    ensures statics { IfOk result (λ x. x.0.items ≡ map (λ f. f.opening) p.now.fields) }
+    ensures states { IfOk result (λ x. x.1.items ≡ map (λ c. Idle) p.now.classes) }
+{
+    let statics = opening_statics(alloc, p)?;
+    let states = opening_states(alloc, p)?;
+    Ok((statics, states))
 }
 
 /// Gives each place the value that it had at first.

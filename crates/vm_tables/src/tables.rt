@@ -36,6 +36,15 @@ pub struct Tables<'p> {
     hierarchy: Hierarchy,
 }
 
+/// The numbers of instructions, the places after them, counts of cells, first units, and what calls ask of methods.
+type MemberTables = (
+    Items<Items<u16>>,
+    Items<Items<u16>>,
+    Items<usize>,
+    Items<u16>,
+    MethodTable,
+);
+
 impl<'p> Model for Tables<'p> {
     ghost use Rattle.jvm_model.specs.declared.program.Program.{Program as Numbered};
     ghost use Rattle.vm_tables.specs.Numbers.{AreTables};
@@ -57,14 +66,14 @@ impl<'p> Tables<'p> {
         let trivial = TrivialClasses::of(alloc, p, &defaults)?;
         let parts = InitPlan::of(alloc, p, &defaults, &trivial)?;
         let hierarchy = Hierarchy::of(alloc, p)?;
-        let (numbers, nexts) = all_places(alloc, p)?;
+        let (numbers, nexts, cells, units, methods) = member_tables(alloc, p, &trivial)?;
         Ok(Tables {
             program: p,
             numbers,
             nexts,
-            cells: all_cells(alloc, p)?,
-            units: all_units(alloc, p)?,
-            methods: MethodTable::of(alloc, p, &trivial)?,
+            cells,
+            units,
+            methods,
             defaults,
             trivial,
             parts,
@@ -266,6 +275,28 @@ fn next_at(nexts: &Items<Items<u16>>, method: u32, pc: u32) -> u32
             Some(next) => u32::from(*next),
         },
     }
+}
+
+/// The tables of a program's methods and fields: instructions by byte place and the places after them, counts of cells,
+/// first units of fields' descriptors, and what calls ask of methods.
+fn member_tables(
+    alloc: Global,
+    p: &Program,
+    trivial: &TrivialClasses,
+) -> Result<MemberTables, NoMemory>
+    requires linked { Linked p.now }
+    requires same { trivial.now ≡ p.now }
+    ensures numbers { IfOk result (λ tables. AreNumbers p.now tables.0) }
+    ensures nexts { IfOk result (λ tables. AllNexts p.now tables.1) }
+    ensures cells { IfOk result (λ tables. AreCells p.now tables.2) }
+    ensures units { IfOk result (λ tables. AreUnits p.now tables.3) }
+    ensures methods { IfOk result (λ tables. tables.4 ≡ p.now) }
+{
+    let (numbers, nexts) = all_places(alloc, p)?;
+    let cells = all_cells(alloc, p)?;
+    let units = all_units(alloc, p)?;
+    let methods = MethodTable::of(alloc, p, trivial)?;
+    Ok((numbers, nexts, cells, units, methods))
 }
 
 /// The numbers of each method's instructions by byte place, and the places after them.

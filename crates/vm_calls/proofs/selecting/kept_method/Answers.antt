@@ -1,4 +1,4 @@
-use Rattle.std.proofs.Common.{◌≡◌, ◌∙◌, ap, subst, [], filter, flat_map, nat_eq}
+use Rattle.std.proofs.Common.{◌≡◌, ◌∙◌, ap, refl, subst, [], filter, flat_map, nat_eq}
 use Rattle.indexmap.specs.IndexSet.{insert_all}
 use Rattle.jvm_model.specs.{declared.program.Program.Program, Classes.class_at, Selection.is_open_like, Selection.one_with_code}
 use Rattle.member_lookup.specs.Walks.{is_kept}
@@ -9,11 +9,8 @@ use Rattle.vm_calls.proofs.selecting.kept_method.Goals as goal
 pub returns : goal.returns
 returns c =
     let p = c.args.tables.now in
-    let above = c.in_ok-above.above.keys in
-    let found = subst (λ (q : Program). c.in_ok-found.found ≡ flat_map (λ i. filter (λ n. is_open_like q c.args.method n) (class_at q i).methods) c.interfaces.result.now) c.program-p.ensures c.in_ok-found.ensures in
-    let kept = subst (λ (q : Program). c.in_ok-kept.kept ≡ filter (λ n. is_kept q above n) c.as_slice-2.result.now) c.program-p.ensures c.in_ok-kept.ensures in
+    let found = subst (λ (q : Program). c.in_ok-found.found ≡ flat_map (λ i. filter (λ n. is_open_like q c.args.method n) (class_at q i).methods) c.interfaces.result.now) c.program.ensures c.in_ok-found.ensures in
     c.one_with_code.ensures
-    ∙ (ap one_with_code c.as_slice-3.ensures
-    ∙ kept_is p c.args.method c.args.class c.interfaces.result.now c.in_ok-found.found above c.in_ok-kept.kept c.interfaces.ensures found
-    (c.in_ok-above.ensures ∙ ap (λ xs. insert_all nat_eq [] (flat_map (λ n. above_of p n) xs)) c.as_slice.ensures)
-    (kept ∙ ap (λ xs. filter (λ n. is_kept p above n) xs) c.as_slice-2.ensures))
+    ∙ (ap one_with_code c.as_slice-2.ensures
+    ∙ kept_is p c.args.method c.args.class c.interfaces.result.now c.in_ok-found.found _ c.in_ok-kept.kept c.interfaces.ensures found refl
+    (c.in_ok-kept.ensures ∙ ap (λ xs. filter (λ n. is_kept p (insert_all nat_eq [] (flat_map (λ m. above_of p m) xs)) n) xs) c.as_slice.ensures))
