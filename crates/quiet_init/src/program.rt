@@ -59,8 +59,24 @@ fn quiet_parts(alloc: Global, p: &Program) -> Result<(Items<bool>, Vec<Value>), 
     ensures openings { IfOk result (λ x. AreOpenings p.now x.1.items) }
 {
     let tables = Tables::of(alloc, p)?;
-    let flags = quiet_flags(alloc, p, &tables)?;
-    let memory = leave_all(alloc, p, &tables, flags.as_slice())?;
+    let parts = parts_by(alloc, p, &tables);
+    drop(tables);
+    parts
+}
+
+// The same, by the program's tables.
+fn parts_by(
+    alloc: Global,
+    p: &Program,
+    tables: &Tables,
+) -> Result<(Items<bool>, Vec<Value>), NoMemory>
+    requires typed { IsTyped p.now }
+    requires tables { tables.now ≡ p.now }
+    ensures flags { IfOk result (λ x. AreFlags p.now x.0) }
+    ensures openings { IfOk result (λ x. AreOpenings p.now x.1.items) }
+{
+    let flags = quiet_flags(alloc, p, tables)?;
+    let memory = leave_all(alloc, p, tables, flags.as_slice())?;
     Ok((flags, memory.into_statics()))
 }
 

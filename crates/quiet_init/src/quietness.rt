@@ -121,7 +121,17 @@ pub(crate) fn flagged(alloc: Global, flags: &[bool]) -> Result<Items<u32>, NoMem
 pub fn quiet_classes(alloc: Global, p: &Checked) -> Result<Items<u32>, NoMemory>
     ensures { IfOk result (λ classes. classes ≡ quiet.quiet_classes p.now) }
 {
-    let tables = Tables::of(alloc, p.program())?;
-    let flags = quiet_flags(alloc, p.program(), &tables)?;
+    let flags = flags_of(alloc, p.program())?;
     flagged(alloc, flags.as_slice())
+}
+
+// The same as `quiet_flags`, by tables of its own.
+fn flags_of(alloc: Global, p: &Program) -> Result<Items<bool>, NoMemory>
+    requires linked { Linked p.now }
+    ensures { IfOk result (λ flags. flags ≡ map (quiet.is_quiet p.now) (range_with_len 0 (length p.now.classes))) }
+{
+    let tables = Tables::of(alloc, p)?;
+    let flags = quiet_flags(alloc, p, &tables);
+    drop(tables);
+    flags
 }
