@@ -10,7 +10,7 @@ use std::marker::Model;
 const CHUNK: u64 = 65_536;
 
 /// A list of cells, held in chunks of 65,536 so that growing moves none. Contracts see it as that list.
-#[derive(Debug, Drop)]
+#[derive(Drop)]
 pub struct Region<T> {
     chunks: Vec<Chunk<T>>,
     len: u64,
@@ -29,14 +29,14 @@ impl<T> Model for Region<T> {
 }
 
 /// New cells: their first place and how many there are.
-#[derive(Clone, Copy, Debug, PartialEq, Eq)]
+#[derive(Clone, Copy, PartialEq, Eq)]
 pub struct Block {
     pub start: u64,
     pub len: u64,
 }
 
 /// A length that a region can be cut back to.
-#[derive(Clone, Copy, Debug, PartialEq, Eq)]
+#[derive(Clone, Copy, PartialEq, Eq)]
 pub struct Mark {
     pub len: u64,
 }

@@ -12,7 +12,7 @@ use vm_tables::Tables;
 /// How the use of a class goes on. `Ready` says that the instruction goes on, `Begun` that an initialisation entry was
 /// pushed and the instruction is to be tried again once it's gone, `Fault` that the step throws by itself a new
 /// throwable of this class, and `Over` that no unit is left for the step.
-#[derive(Clone, Copy, Debug, PartialEq, Eq)]
+#[derive(Clone, Copy, PartialEq, Eq)]
 pub enum Use {
     Ready,
     Begun,

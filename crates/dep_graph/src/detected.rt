@@ -6,7 +6,7 @@ use et_base::Items;
 use order_law::{Record, Shown};
 
 /// The record of a detection run, and what is shown of each of its edges, in their order.
-#[derive(Debug, Drop)]
+#[derive(Drop)]
 pub struct Detected {
     pub kept: Record,
     pub shown: Items<Shown>,

@@ -4,7 +4,7 @@ ghost use Rattle.std.specs.Prelude.{◌≡◌, ℕ, ◌<◌, false, nat_eq, ◌|
 ghost use Rattle.dep_graph.specs.Sets.{holds};
 
 /// A set of numbers below 1,088, so that the tests of a record, at most 1,024, have room. Takes no memory.
-#[derive(Clone, Copy, Debug)]
+#[derive(Clone, Copy)]
 pub struct TestSet {
     words: [u64; 17],
 }

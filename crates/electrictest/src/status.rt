@@ -10,7 +10,7 @@ use suite_load::Why;
 use type_frames::CheckFault;
 
 /// How a command ended.
-#[derive(Debug, Drop)]
+#[derive(Drop)]
 pub enum Status {
     /// The text was written, and each test that ran passed.
     Done,

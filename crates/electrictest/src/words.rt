@@ -8,7 +8,7 @@ use et_base::Text;
 use suite_load::is_depot_name;
 
 /// What is asked for.
-#[derive(Clone, Copy, Debug, PartialEq, Eq)]
+#[derive(Clone, Copy, PartialEq, Eq)]
 pub enum Command {
     /// `run SUITE - 1 all`: the whole suite, in order on one heap.
     Whole,

@@ -8,7 +8,7 @@ use et_base::{Text, Units};
 /// `Fault` says that the step throws by itself a new throwable of this class, `Raise` that this throwable is raised,
 /// `Enter` that this method is entered, `Leave` that the last entry was left, and `Over` that the step's cost is
 /// above the units left and the step isn't made.
-#[derive(Clone, Copy, Debug, PartialEq, Eq)]
+#[derive(Clone, Copy, PartialEq, Eq)]
 pub enum Next {
     Go,
     Fault { class: u32 },
@@ -19,14 +19,14 @@ pub enum Next {
 }
 
 /// The class of the throwable that decided a verdict, and its message where one is set.
-#[derive(Debug, Drop)]
+#[derive(Drop)]
 pub struct Cause {
     pub class: u32,
     pub message: Option<Units>,
 }
 
 /// How a test ended: `Failed` by an `AssertionError` or a subclass of it, `Error` by any other throwable.
-#[derive(Debug, Drop)]
+#[derive(Drop)]
 pub enum Verdict {
     Passed,
     Failed(Cause),
@@ -34,7 +34,7 @@ pub enum Verdict {
 }
 
 /// What one test gives: its verdict, the bytes that it printed and the units that it spent.
-#[derive(Debug, Drop)]
+#[derive(Drop)]
 pub struct Outcome {
     pub verdict: Verdict,
     pub output: Text,
@@ -42,7 +42,7 @@ pub struct Outcome {
 }
 
 /// What a test has of its own beside its entries: the bytes printed so far, its next clock answer and its random word.
-#[derive(Debug, Drop)]
+#[derive(Drop)]
 pub struct Own {
     pub output: Text,
     pub clock: i64,

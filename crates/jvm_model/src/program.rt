@@ -7,7 +7,7 @@ use et_base::{Items, Text, Units};
 
 /// All that a run needs of a suite. Classes, fields and methods are numbered by their places from 0, the built-in
 /// ones first; the string constant n stands at place n - 1 of `literals`, and test n at place n - 1 of `tests`.
-#[derive(Debug, Drop)]
+#[derive(Drop)]
 pub struct Program {
     pub classes: Items<ClassRec>,
     pub fields: Items<FieldRec>,
@@ -18,7 +18,7 @@ pub struct Program {
 }
 
 /// A class or interface (JVMS 4.1).
-#[derive(Debug, Drop)]
+#[derive(Drop)]
 pub struct ClassRec {
     /// Its internal name, as `java/lang/Object` (JVMS 4.2.1).
     pub name: Units,
@@ -41,7 +41,7 @@ pub struct ClassRec {
 }
 
 /// A field (JVMS 4.5).
-#[derive(Debug, Drop)]
+#[derive(Drop)]
 pub struct FieldRec {
     /// The number of the class that declares it.
     pub class: u32,
@@ -57,7 +57,7 @@ pub struct FieldRec {
 }
 
 /// A method (JVMS 4.6): built in, with code, or with neither.
-#[derive(Debug, Drop)]
+#[derive(Drop)]
 pub struct MethodRec {
     /// The number of the class that declares it.
     pub class: u32,
@@ -74,7 +74,7 @@ pub struct MethodRec {
 }
 
 /// A method's code (JVMS 4.7.3).
-#[derive(Debug, Drop)]
+#[derive(Drop)]
 pub struct Body {
     /// The greatest depth of its operand stack, in places: a long takes two.
     pub max_stack: u16,
@@ -93,7 +93,7 @@ pub struct Body {
 }
 
 /// An instruction at its byte place in the code.
-#[derive(Debug, Drop)]
+#[derive(Drop)]
 pub struct Placed {
     pub pc: u32,
     pub form: Instr,
@@ -101,7 +101,7 @@ pub struct Placed {
 
 /// A row of a handler table: places from `from` up to but not `to`, the handler's place, and the class that it
 /// catches, `None` for all (JVMS 4.7.3).
-#[derive(Clone, Copy, Debug, PartialEq, Eq)]
+#[derive(Clone, Copy, PartialEq, Eq)]
 pub struct Handler {
     pub from: u32,
     pub to: u32,
@@ -110,7 +110,7 @@ pub struct Handler {
 }
 
 /// An entry of a stack map (JVMS 4.7.4).
-#[derive(Debug, Drop)]
+#[derive(Drop)]
 pub struct FrameRec {
     pub tag: u8,
     pub delta: u16,
@@ -119,7 +119,7 @@ pub struct FrameRec {
 }
 
 /// A type of a stack map entry (JVMS 4.7.4).
-#[derive(Debug, Drop)]
+#[derive(Drop)]
 pub enum TypeRec {
     Plain { tag: u8 },
     Object { name: Units },
@@ -127,7 +127,7 @@ pub enum TypeRec {
 }
 
 /// A test of the suite.
-#[derive(Clone, Copy, Debug, PartialEq, Eq)]
+#[derive(Clone, Copy, PartialEq, Eq)]
 pub struct TestEntry {
     /// The number of its class.
     pub class: u32,
@@ -142,7 +142,7 @@ pub struct TestEntry {
 }
 
 /// The texts of tests, classes and fields that reports print.
-#[derive(Debug, Drop)]
+#[derive(Drop)]
 pub struct Names {
     pub tests: Items<Text>,
     pub classes: Items<Text>,

@@ -4,7 +4,7 @@ use crate::values::Value;
 
 /// What an entry is: a frame of a method (JVMS 2.6) or the initialisation of a class, with whether its `<clinit>` was
 /// entered or there is none to enter. `Absent` stands for the top of an empty list alone.
-#[derive(Clone, Copy, Debug, PartialEq, Eq)]
+#[derive(Clone, Copy, PartialEq, Eq)]
 pub enum EntryKind {
     Absent,
     InMethod,
@@ -15,7 +15,7 @@ pub enum EntryKind {
 /// `Made`: `<init>` is called on the object; `Built`: `setUp` is called, where there is one; `SetUp`: the method is
 /// called; `Called`: `tearDown` is called, where there is one; `Last`: the test is judged. `thrown` is the first
 /// throwable that came out of what was called.
-#[derive(Clone, Copy, Debug, PartialEq, Eq)]
+#[derive(Clone, Copy, PartialEq, Eq)]
 pub enum Stage {
     First,
     Made { object: u64 },

@@ -4,7 +4,7 @@ use et_base::Text;
 
 /// Why one test has to come before another. `Raw`: the later one reads what the earlier one wrote last; `Waw`: both write,
 /// and no test between them; `War`: the later one writes what the earlier one read (this project's kinds).
-#[derive(Clone, Copy, Debug, PartialEq, Eq)]
+#[derive(Clone, Copy, PartialEq, Eq)]
 pub enum EdgeKind {
     Raw,
     Waw,
@@ -13,7 +13,7 @@ pub enum EdgeKind {
 
 /// The conflicts of one kind between two tests, numbered from 1: how many locations they are at, and the text of the one
 /// that the later test touched first.
-#[derive(Debug, Drop)]
+#[derive(Drop)]
 pub struct Edge {
     pub earlier: u32,
     pub later: u32,

@@ -7,7 +7,7 @@ pub trait Gate {
 }
 
 /// The gate that lets everything pass.
-#[derive(Clone, Copy, Debug, PartialEq, Eq)]
+#[derive(Clone, Copy, PartialEq, Eq)]
 pub struct OpenGate {}
 
 impl OpenGate {

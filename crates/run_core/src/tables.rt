@@ -9,7 +9,7 @@ use et_base::{Items, NoMemory};
 use std::alloc::Global;
 
 /// A chain: who claimed it (0: nobody), how many of its tests are posted, and how many it has.
-#[derive(Clone, Copy, Debug, PartialEq, Eq)]
+#[derive(Clone, Copy, PartialEq, Eq)]
 pub struct Row {
     pub by: u32,
     pub done: u32,
@@ -17,7 +17,7 @@ pub struct Row {
 }
 
 /// A chain that a worker has in hand, by its number from 1, and the next test of it.
-#[derive(Clone, Copy, Debug, PartialEq, Eq)]
+#[derive(Clone, Copy, PartialEq, Eq)]
 pub struct Open {
     pub chain: u32,
     pub test: u32,

@@ -7,7 +7,7 @@ use et_base::{Items, NoMemory};
 use std::alloc::Global;
 
 /// The chains of a worker by their numbers, in the order in which they were given to it, and their units.
-#[derive(Debug, Drop)]
+#[derive(Drop)]
 pub struct Share {
     pub chains: Items<u32>,
     pub load: u64,
@@ -15,7 +15,7 @@ pub struct Share {
 
 /// Which worker runs which chains: a share for each worker. There are fewer than 2^32 workers, and a share has fewer than
 /// 2^32 chains.
-#[derive(Debug, Drop)]
+#[derive(Drop)]
 pub struct WorkPlan {
     pub shares: Items<Share>,
     ghost few: { length shares < 2 ^ 32 },

@@ -4,7 +4,7 @@ use crate::vtype::VType;
 use et_base::Items;
 
 /// What an instruction asks of one place.
-#[derive(Debug, Drop)]
+#[derive(Drop)]
 pub enum OperandConstraint {
     /// A type that is assignable to this one.
     Fits(VType),
@@ -25,21 +25,21 @@ pub enum OperandConstraint {
 }
 
 /// A local and what is asked of it.
-#[derive(Debug, Drop)]
+#[derive(Drop)]
 pub struct Reading {
     pub local: u32,
     pub need: OperandConstraint,
 }
 
 /// A local and its new type.
-#[derive(Debug, Drop)]
+#[derive(Drop)]
 pub struct LocalUpdate {
     pub local: u32,
     pub to: VType,
 }
 
 /// A change of all places of one type.
-#[derive(Debug, Drop)]
+#[derive(Drop)]
 pub enum Substitution {
     Keep,
     All { from: VType, to: VType },
@@ -48,7 +48,7 @@ pub enum Substitution {
 /// The two sides of an instruction: what it takes of the stack and leaves there, top first, what it reads and sets of
 /// the locals, what type turns into another, and whether control goes on at the next instruction. The last three say
 /// whether it keeps what the rules on returns, on uninitialised objects and on the names of called methods ask of it.
-#[derive(Debug, Drop)]
+#[derive(Drop)]
 pub struct StackEffect {
     pub takes: Items<OperandConstraint>,
     pub gives: Items<VType>,

@@ -17,7 +17,7 @@ use vm_tables::Tables;
 const PLACES: usize = 4_096;
 
 /// What a call of a method selected at a class: invokespecial, or else invokevirtual and invokeinterface.
-#[derive(Clone, Copy, Debug, PartialEq, Eq)]
+#[derive(Clone, Copy, PartialEq, Eq)]
 pub(crate) struct Known {
     pub special: bool,
     pub method: u32,

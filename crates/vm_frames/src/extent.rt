@@ -9,7 +9,7 @@ use std::mem;
 
 /// An entry's kind, number and place in the code, and its extent in the slots: its locals stand from `base` up to
 /// `first`, its operands from there up to `top`.
-#[derive(Clone, Copy, Debug, PartialEq, Eq)]
+#[derive(Clone, Copy, PartialEq, Eq)]
 pub struct Extent {
     pub kind: EntryKind,
     pub number: u32,

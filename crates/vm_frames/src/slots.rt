@@ -12,7 +12,7 @@ use std::marker::Model;
 use std::mem;
 
 /// Which of the values the bits of a place are.
-#[derive(Clone, Copy, Debug)]
+#[derive(Clone, Copy)]
 pub enum Tag {
     OfInt,
     OfLong,
@@ -25,7 +25,7 @@ pub enum Tag {
 ///
 /// A place takes nine bytes where a `Value` takes sixteen, and a typed read or write makes and matches none. After a
 /// refusal there may be more bits than tags; the list ends with the tags.
-#[derive(Debug, Drop)]
+#[derive(Drop)]
 pub struct Slots {
     tags: Vec<Tag>,
     bits: Vec<u64>,

@@ -23,7 +23,7 @@ const ENTRY_LIMIT: u32 = 1_024;
 ///
 /// All values stand in one list of slots. A push makes room for as many operands as a method can have, so no call on
 /// the top entry takes memory.
-#[derive(Debug, Drop)]
+#[derive(Drop)]
 pub struct FrameStack {
     slots: Slots,
     saved: Vec<Extent>,

@@ -7,7 +7,7 @@ use jvm_model::Next;
 
 /// How the row of an instruction left the entry at the top: it goes on at the next instruction, or at another one of the
 /// same method, or it called a method, or it answered this.
-#[derive(Clone, Copy, Debug, PartialEq, Eq)]
+#[derive(Clone, Copy, PartialEq, Eq)]
 pub(crate) enum Flow {
     FallThrough,
     Jump,

@@ -13,7 +13,7 @@ use std::marker::Model;
 use std::snapshot::Snapshot;
 
 /// A class or interface that is initialised before another, and what it costs to look at its state.
-#[derive(Clone, Copy, Debug, PartialEq, Eq)]
+#[derive(Clone, Copy, PartialEq, Eq)]
 pub struct Part {
     /// Its number.
     pub class: u32,
