@@ -9,7 +9,8 @@ ghost use Rattle.order_law.specs.{Histories.Touches, OwnRecord.edges_in, Pairing
 ghost use Rattle.std.specs.List.{list_all};
 ghost use Rattle.vm_mem.specs.Trace.{Trace, Extends, empty_trace};
 ghost use Rattle.access_tags.specs.Followed.{Follows, HasNoted, IsEnded, IsNamed};
-ghost use Rattle.access_tags.specs.{HasDiscovered.HasDiscovered, Numbering.located, Paths.HaveRowsWalks, Settled.reads_out_alone};
+ghost use Rattle.access_tags.specs.{HasDiscovered.HasDiscovered, Numbering.Numbering, Numbering.located, Paths.HaveRowsWalks, Settled.reads_out_alone};
+ghost use Rattle.access_tags.specs.{Shelf.count, Stands.Stands, Worlds.states_of, Worlds.statics_of};
 ghost use Rattle.access_tags.specs.Ran.{HaveWalks, kinds_in, owner_by, trace_to, touched_by};
 
 use crate::conflict::LocationKey;
@@ -57,13 +58,13 @@ impl<const WALKS: bool> TaggedMemory<WALKS> {
         ensures world { IfOk result (λ m. ⟦<TaggedMemory<WALKS> as Memory>⟧.world m ≡ suite.opening p.now) }
         ensures follows { IfOk result (λ m. ⟦<TaggedMemory<WALKS> as Memory>⟧.follows m empty_trace []) }
     {
-        let mut tags = Tags::new(alloc);
-        tags.grow(p.fields.len() as u64)?;
-        tags.grow(p.classes.len() as u64)?;
+        let tags = opening_tags(alloc, p)?;
+        let numbers = Numbers::of(alloc, p)?;
+        let memory = RegionMemory::opening(alloc, p)?;
         Ok(TaggedMemory {
-            memory: RegionMemory::opening(alloc, p)?,
+            memory,
             tags,
-            numbers: Numbers::of(alloc, p)?,
+            numbers,
             names: Names::new(alloc),
             discovery_tree: DiscoveryTree::new(alloc),
             heads: Heads::new(alloc, p.classes.len() as u32),
@@ -361,6 +362,18 @@ impl<const WALKS: bool> Memory for TaggedMemory<WALKS> {
         note_made(&self.numbers, &mut self.tags, object, head)?;
         Ok(object)
     }
+}
+
+/// The tags of a program's statics and class states, which no test touched.
+fn opening_tags(alloc: Global, p: &Program) -> Result<Tags, NoMemory>
+    ensures cells { IfOk result (λ s. count s.cells ≡ length p.now.fields + length p.now.classes) }
+    ensures named { IfOk result (λ s. count s.named ≡ 0) }
+    ensures stands { IfOk result (λ s. (T : Touches) (n : Numbering) → n.cells ≡ statics_of (suite.opening p.now) ++ states_of (suite.opening p.now) → Stands n T 0 [] s) }
+{
+    let mut tags = Tags::new(alloc);
+    tags.grow(p.fields.len() as u64)?;
+    tags.grow(p.classes.len() as u64)?;
+    Ok(tags)
 }
 
 /// The running test touched a part: where walks are kept, how it came to an object.
