@@ -64,7 +64,7 @@ fn quiet_parts(alloc: Global, p: &Program) -> Result<(Items<bool>, Vec<Value>), 
     parts
 }
 
-// The same, by the program's tables.
+// What `quiet_parts` answers, by the program's tables.
 fn parts_by(
     alloc: Global,
     p: &Program,
@@ -78,6 +78,21 @@ fn parts_by(
     let flags = quiet_flags(alloc, p, tables)?;
     let memory = leave_all(alloc, p, tables, flags.as_slice())?;
     Ok((flags, memory.into_statics()))
+}
+
+// What `quiet_parts` answers, and the numbers of the quiet classes, ascending.
+fn quiet_lists(
+    alloc: Global,
+    p: &Program,
+) -> Result<(Items<bool>, Vec<Value>, Items<u32>), NoMemory>
+    requires typed { IsTyped p.now }
+    ensures flags { IfOk result (λ x. AreFlags p.now x.0) }
+    ensures openings { IfOk result (λ x. AreOpenings p.now x.1.items) }
+    ensures classes { IfOk result (λ x. x.2 ≡ quiet_classes p.now) }
+{
+    let (flags, openings) = quiet_parts(alloc, p)?;
+    let classes = flagged(alloc, flags.as_slice())?;
+    Ok((flags, openings, classes))
 }
 
 // The program without its quiet initialisers, by the flags of its classes and its openings then.
@@ -111,8 +126,7 @@ fn hushed(p: Checked, flags: &[bool], openings: &[Value]) -> Checked
 pub fn quiet(alloc: Global, p: Checked) -> Result<QuietProgram, NoMemory>
     ensures { IfOk result (λ q. (q.checked ≡ quiet p) × (q.classes ≡ quiet_classes p)) }
 {
-    let (flags, openings) = quiet_parts(alloc, p.program())?;
-    let classes = flagged(alloc, flags.as_slice())?;
+    let (flags, openings, classes) = quiet_lists(alloc, p.program())?;
     let checked = hushed(p, flags.as_slice(), openings.as_slice());
     Ok(QuietProgram { checked, classes })
 }
