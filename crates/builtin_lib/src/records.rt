@@ -23,7 +23,7 @@ use jvm_model::{ClassRec, FieldRec, MethodRec};
 use std::alloc::Global;
 
 /// The records of the built-in classes and of all their fields and methods. Each record's number is its place.
-#[derive(Debug, Drop)]
+#[derive(Drop)]
 pub struct BuiltinRecords {
     pub classes: Items<ClassRec>,
     pub fields: Items<FieldRec>,

@@ -4,7 +4,7 @@ use crate::values::{Kind, Value};
 use et_base::Items;
 
 /// The three sorts of values of loads, stores and returns.
-#[derive(Clone, Copy, Debug, PartialEq, Eq)]
+#[derive(Clone, Copy, PartialEq, Eq)]
 pub enum Sort {
     Int,
     Long,
@@ -12,7 +12,7 @@ pub enum Sort {
 }
 
 /// The sorts of array cells; `Byte` serves boolean arrays too (JVMS 2.11.1).
-#[derive(Clone, Copy, Debug, PartialEq, Eq)]
+#[derive(Clone, Copy, PartialEq, Eq)]
 pub enum Cell {
     Int,
     Long,
@@ -23,7 +23,7 @@ pub enum Cell {
 }
 
 /// The two-operand forms of whole-number arithmetic, shifts and logic.
-#[derive(Clone, Copy, Debug, PartialEq, Eq)]
+#[derive(Clone, Copy, PartialEq, Eq)]
 pub enum Op {
     Add,
     Sub,
@@ -39,7 +39,7 @@ pub enum Op {
 }
 
 /// The conversions.
-#[derive(Clone, Copy, Debug, PartialEq, Eq)]
+#[derive(Clone, Copy, PartialEq, Eq)]
 pub enum Conv {
     I2l,
     L2i,
@@ -49,7 +49,7 @@ pub enum Conv {
 }
 
 /// The tests of conditional branches.
-#[derive(Clone, Copy, Debug, PartialEq, Eq)]
+#[derive(Clone, Copy, PartialEq, Eq)]
 pub enum IfTest {
     Eq,
     Ne,
@@ -61,7 +61,7 @@ pub enum IfTest {
 
 /// One instruction with its operands resolved. Targets are byte places in the code; classes, fields and methods are
 /// the numbers of the program. `wide` says that the form works on longs.
-#[derive(Debug, Drop)]
+#[derive(Drop)]
 pub enum Instr {
     Nop,
     Const(Value),

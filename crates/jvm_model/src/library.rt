@@ -4,7 +4,7 @@ use crate::values::Value;
 use et_base::{Items, Units};
 
 /// A class with its members, whose references are names.
-#[derive(Debug, Drop)]
+#[derive(Drop)]
 pub struct ClassDef {
     pub name: Units,
     pub flags: u16,
@@ -24,7 +24,7 @@ pub struct FieldDef {
 }
 
 /// A built-in method of such a class.
-#[derive(Debug, Drop)]
+#[derive(Drop)]
 pub struct MethodDef {
     pub name: Units,
     pub descriptor: Units,
@@ -33,7 +33,7 @@ pub struct MethodDef {
 }
 
 /// The built-in methods. The two constructors of throwables serve every built-in throwable class.
-#[derive(Clone, Copy, Debug, PartialEq, Eq)]
+#[derive(Clone, Copy, PartialEq, Eq)]
 pub enum Native {
     ObjectInit,
     ObjectEquals,

@@ -7,7 +7,7 @@ use et_base::{Items, Text, Units};
 
 /// All that a run needs of a suite. Classes, fields and methods are numbered by their places from 0, the built-in
 /// ones first; the string constant n stands at place n - 1 of `literals`, and test n at place n - 1 of `tests`.
-#[derive(Debug, Drop)]
+#[derive(Drop)]
 pub struct Program {
     pub classes: Items<ClassRec>,
     pub fields: Items<FieldRec>,
@@ -57,7 +57,7 @@ pub struct FieldRec {
 }
 
 /// A method (JVMS 4.6): built in, with code, or with neither.
-#[derive(Debug, Drop)]
+#[derive(Drop)]
 pub struct MethodRec {
     /// The number of the class that declares it.
     pub class: u32,
@@ -74,7 +74,7 @@ pub struct MethodRec {
 }
 
 /// A method's code (JVMS 4.7.3).
-#[derive(Debug, Drop)]
+#[derive(Drop)]
 pub struct Body {
     /// The greatest depth of its operand stack, in places: a long takes two.
     pub max_stack: u16,
@@ -93,7 +93,7 @@ pub struct Body {
 }
 
 /// An instruction at its byte place in the code.
-#[derive(Debug, Drop)]
+#[derive(Drop)]
 pub struct Placed {
     pub pc: u32,
     pub form: Instr,

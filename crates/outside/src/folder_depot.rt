@@ -144,20 +144,18 @@ impl<'a, R: Files> Depot for FolderDepot<'a, R> {
             self.new.last_failed ≡ self.old.last_failed }
     {
         let answer = self.read_file(name, limit);
-        match &answer {
-            Ok(bytes) => self
-                .answers
-                .push(Heard::Bytes(Snapshot::of(name), Snapshot::of(bytes)))?,
-            Err(DepotRefusal::Absent) => self.answers.push(Heard::Absent(Snapshot::of(name)))?,
-            Err(DepotRefusal::TooLong) => self
-                .answers
-                .push(Heard::Longer(Snapshot::of(name), limit))?,
+        let heard = match &answer {
+            Ok(bytes) => Heard::Bytes(Snapshot::of(name), Snapshot::of(bytes)),
+            Err(DepotRefusal::Absent) => Heard::Absent(Snapshot::of(name)),
+            Err(DepotRefusal::TooLong) => Heard::Longer(Snapshot::of(name), limit),
             Err(DepotRefusal::Failed) => {
                 self.last_failed = Some(Snapshot::of(name));
                 self.faults = raise(self.faults);
+                return answer;
             }
-            Err(DepotRefusal::NoMemory) => {}
-        }
+            Err(DepotRefusal::NoMemory) => return answer,
+        };
+        self.answers.push(heard)?;
         answer
     }
 }
