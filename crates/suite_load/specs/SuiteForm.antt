@@ -52,14 +52,18 @@ place_of End = 5
 unfoldable pub is_in_order : List SuiteLine → ℕ → Bool
 is_in_order before place = list_all (λ l. nat_le (place_of l) place) before
 
+-- the name of a line isn't among those of its kind
+abbrev pub IsNewAmong : List (List ℕ) → List (List ℕ) → List (List ℕ) → SuiteLine → Type 0
+IsNewAmong classes files tests Header = Unit {0}
+IsNewAmong classes files tests (Budget units) = Unit {0}
+IsNewAmong classes files tests (Class name) = list_any (bytes_eq name) classes ≡ false
+IsNewAmong classes files tests (File name content) = list_any (bytes_eq name) files ≡ false
+IsNewAmong classes files tests (Test test) = list_any (bytes_eq test.name) tests ≡ false
+IsNewAmong classes files tests End = Unit {0}
+
 -- the name of a line stands in no line of its kind
 abbrev pub IsNew : List SuiteLine → SuiteLine → Type 0
-IsNew before Header = Unit {0}
-IsNew before (Budget units) = Unit {0}
-IsNew before (Class name) = list_any (bytes_eq name) (class_names before) ≡ false
-IsNew before (File name content) = list_any (bytes_eq name) (file_names before) ≡ false
-IsNew before (Test test) = list_any (bytes_eq test.name) (test_names before) ≡ false
-IsNew before End = Unit {0}
+IsNew before line = IsNewAmong (class_names before) (file_names before) (test_names before) line
 
 -- Each definition below judges the line that follows good lines. Its number is one more than theirs.
 abbrev pub fault : List SuiteLine → Why → SuiteRefusal

@@ -1,8 +1,8 @@
 //! The good lines before a line.
 
-ghost use Rattle.std.specs.Prelude.{◌≡◌, ◌+◌, ◌^◌, ◌<◌, ◌==◌, [], ◌∷◌, ◌++◌, length, IfOk, IsOk};
+ghost use Rattle.std.specs.Prelude.{◌≡◌, ◌+◌, ◌^◌, ◌<◌, ◌==◌, ◌||◌, [], ◌∷◌, ◌++◌, length, IfOk, IsOk, OnOk};
 ghost use Rattle.suite_load.specs.SuiteForm as form;
-ghost use Rattle.suite_load.specs.Reading.{Names};
+ghost use Rattle.suite_load.specs.{Reading.Names, Summary.classes_with, Summary.files_with, Summary.tests_with};
 
 use crate::name_set::NameSet;
 use crate::suite_line::SuiteLine;
@@ -131,27 +131,16 @@ impl LinesBefore {
         requires { form.IsNew self line }
         ensures { IfOk result (λ b. b ≡ self ++ line ∷ []) }
     {
-        match &line {
-            SuiteLine::Header => self.last = self.last.max(HEADER),
-            SuiteLine::Budget(_) => self.last = self.last.max(BUDGET),
-            SuiteLine::Class(name) => {
-                self.classes.insert(alloc, name.as_slice())?;
-                self.last = self.last.max(CLASS);
-            }
-            SuiteLine::File(name, _) => {
-                self.files.insert(alloc, name.as_slice())?;
-                self.last = self.last.max(FILE);
-            }
-            SuiteLine::Test(test) => {
-                self.tests.insert(alloc, test.name.as_slice())?;
-                self.last = self.last.max(TEST);
-            }
-            SuiteLine::End => {
-                self.last = self.last.max(END);
-                self.ended = true;
-            }
-        }
-        self.lines.push(line)?;
+        self.last = self.last.max(place_of(&line));
+        self.ended = is_ended_by(self.ended, &line);
+        add_line(
+            alloc,
+            line,
+            &mut self.lines,
+            &mut self.classes,
+            &mut self.files,
+            &mut self.tests,
+        )?;
         Ok(self)
     }
 
@@ -169,4 +158,66 @@ impl LinesBefore {
         } = self;
         lines
     }
+}
+
+// The place of a line in the order of lines.
+fn place_of(line: &SuiteLine) -> u8
+    ensures { result ≡ form.place_of line.now }
+{
+    match line {
+        SuiteLine::Header => HEADER,
+        SuiteLine::Budget(_) => BUDGET,
+        SuiteLine::Class(_) => CLASS,
+        SuiteLine::File(_, _) => FILE,
+        SuiteLine::Test(_) => TEST,
+        SuiteLine::End => END,
+    }
+}
+
+// Whether the end stands, with this line.
+fn is_ended_by(ended: bool, line: &SuiteLine) -> bool
+    ensures { result ≡ (ended || form.is_end line.now) }
+{
+    ended || place_of(line) == END
+}
+
+// Adds the name that a line gives, which isn't among those of its kind.
+fn note_name(
+    alloc: Global,
+    line: &SuiteLine,
+    classes: &mut NameSet,
+    files: &mut NameSet,
+    tests: &mut NameSet,
+) -> Result<(), NoMemory>
+    requires { form.IsNewAmong classes.old files.old tests.old line.now }
+    ensures classes { OnOk result (classes.new ≡ classes_with classes.old line.now) }
+    ensures files { OnOk result (files.new ≡ files_with files.old line.now) }
+    ensures tests { OnOk result (tests.new ≡ tests_with tests.old line.now) }
+{
+    match line {
+        SuiteLine::Class(name) => classes.insert(alloc, name.as_slice()),
+        SuiteLine::File(name, _) => files.insert(alloc, name.as_slice()),
+        SuiteLine::Test(test) => tests.insert(alloc, test.name.as_slice()),
+        _ => Ok(()),
+    }
+}
+
+// Adds a line, and the name that it gives, which isn't among those of its kind.
+fn add_line(
+    alloc: Global,
+    line: SuiteLine,
+    lines: &mut Vec<SuiteLine>,
+    classes: &mut NameSet,
+    files: &mut NameSet,
+    tests: &mut NameSet,
+) -> Result<(), NoMemory>
+    requires { form.IsNewAmong classes.old files.old tests.old line }
+    ensures lines { OnOk result (lines.new.items ≡ lines.old.items ++ line ∷ []) }
+    ensures classes { OnOk result (classes.new ≡ classes_with classes.old line) }
+    ensures files { OnOk result (files.new ≡ files_with files.old line) }
+    ensures tests { OnOk result (tests.new ≡ tests_with tests.old line) }
+{
+    note_name(alloc, &line, classes, files, tests)?;
+    lines.push(line)?;
+    Ok(())
 }
