@@ -1,10 +1,11 @@
 //! Linking as a whole.
 
-ghost use Rattle.std.specs.Prelude.{◌≡◌, ◌≤◌, ◌⊎◌, Option, Some, None, IfOk, IfErr, OnOk, length, map};
+ghost use Rattle.std.specs.Prelude.{◌≡◌, ◌≤◌, ◌⊎◌, Option, Some, None, Ok, Err, IfOk, IfErr, OnOk, length, map};
 ghost use Rattle.std.specs.List.{All};
 ghost use Rattle.class_reader.specs.ClassGrammar as grammar;
 ghost use Rattle.class_link.specs.Assembly as assembly;
 ghost use Rattle.class_link.specs.Bodies as bodies;
+ghost use Rattle.class_link.specs.Faults.{duplicate_fault};
 ghost use Rattle.member_lookup.specs.Ancestors.{IsFirstCycle};
 ghost use Rattle.class_link.specs.Link as links;
 ghost use Rattle.jvm_model.specs.Linked.{Linked};
@@ -99,6 +100,28 @@ fn program_of(
     Ok(with_bodies(setting.program, bodies, tests, files))
 }
 
+// What pool entries stand for, and the tests; or the first fault, where the names of class files differ.
+fn parts_of(
+    alloc: Global,
+    setting: &LinkEnvironment,
+    classes: &[ClassFile],
+    lines: &TestLines,
+) -> Result<(Items<Targets>, Items<TestEntry>), LinkFault>
+    requires setting { setting.now ≡ links.setting classes.now }
+    requires names { links.unless (duplicate_fault classes.now) ≡ Ok tt }
+    requires few { length classes.now ≤ 1024 }
+    requires lines { links.AreLines lines.now }
+    ensures fault { IfErr result (λ f. links.Links classes.now lines.now (Err f)) }
+    ensures targets { IfOk result (λ x. x.0 ≡ map (λ c. bodies.targets setting.now c.pool) classes.now) }
+    ensures program { IfOk result (λ x. links.Links classes.now lines.now (Ok (links.program_of classes.now x.1 lines.now.files))) }
+{
+    check_all_supertypes(alloc, setting, classes)?;
+    check_cycles(alloc, setting, classes)?;
+    let targets = check_all_references(alloc, setting, classes)?;
+    let tests = tests_of(alloc, setting, lines.budget, lines.tests.as_slice())?;
+    Ok((targets, tests))
+}
+
 /// The program of class files, tests and opening files, its references resolved; or the first fault of linking.
 ///
 /// Faults come in this order, each the first one by class file, and within a class by pool index: a name that is built in or
@@ -115,10 +138,7 @@ pub fn link(alloc: Global, classes: &[ClassFile], lines: &TestLines) -> Result<P
     ensures linked { IfOk result Linked }
 {
     let setting = setting_of(alloc, classes)?;
-    check_all_supertypes(alloc, &setting, classes)?;
-    check_cycles(alloc, &setting, classes)?;
-    let targets = check_all_references(alloc, &setting, classes)?;
-    let tests = tests_of(alloc, &setting, lines.budget, lines.tests.as_slice())?;
+    let (targets, tests) = parts_of(alloc, &setting, classes, lines)?;
     let program = program_of(
         alloc,
         setting,
