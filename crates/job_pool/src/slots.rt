@@ -40,10 +40,12 @@ impl<'p, N: PoolName> Slot<'p, N> {
         ensures worker { IfOk result (λ s. s.worker ≡ worker) }
         ensures filled { IfOk result (λ s. s.owner.seen.pushed ≡ chains_of numbers.now) }
     {
+        let owner = owner_of(alloc, numbers)?;
+        let machine = fresh_machine(alloc, p, worker)?;
         Ok(Slot {
             worker,
-            machine: fresh_machine(alloc, p, worker)?,
-            owner: owner_of(alloc, numbers)?,
+            machine,
+            owner,
             thieves: Vec::new(alloc),
             of: PhantomData,
         })
