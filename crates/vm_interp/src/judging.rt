@@ -60,10 +60,7 @@ fn judge_value<M: Memory>(
 {
     let object = match thrown {
         Value::Obj(object) => object,
-        Value::Null => unreachable!(),
-        Value::Int(_) => unreachable!(),
-        Value::Long(_) => unreachable!(),
-        Value::Lit(_) => unreachable!(),
+        Value::Null | Value::Int(_) | Value::Long(_) | Value::Lit(_) => unreachable!(),
     };
     let p = tables.program();
     let class = memory.head(object)?.kind.class();
@@ -83,8 +80,7 @@ fn judge_value<M: Memory>(
             let text = Units::from_slice(alloc, memory.get_text(message)?.as_slice())?;
             Ok(judge_text(p, class, text, left))
         }
-        Value::Int(_) => unreachable!(),
-        Value::Long(_) => unreachable!(),
+        Value::Int(_) | Value::Long(_) => unreachable!(),
     }
 }
 
