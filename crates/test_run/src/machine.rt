@@ -80,8 +80,8 @@ impl<'p, M: Memory> Machine<'p, M> {
         reach_law();
         let program = p.program();
         stack_limits(program);
-        let tables = Tables::of(alloc, program)?;
         let selections = Selections::new(alloc, program)?;
+        let tables = Tables::of(alloc, program)?;
         Ok(Machine {
             checked: p,
             tables,

@@ -1,6 +1,7 @@
 //! The methods of java.lang.System.
 
-ghost use Rattle.jvm_model.specs.{declared.library.Native.Native, World.World};
+ghost use Rattle.std.specs.Prelude.{Some};
+ghost use Rattle.jvm_model.specs.{declared.library.Native.Native, NativesOutside.changes_property, Working.operands, World.World};
 ghost use Rattle.vm_frames.specs.Stack.{HasRoom};
 ghost use Rattle.vm_mem.specs.Refines.{IsReady, IsNext, Refines, Makes};
 ghost use Rattle.vm_natives.specs.{Rows.with_own, Rows.system_row, Named.property_row, Named.property_change_row};
@@ -94,18 +95,43 @@ pub fn change_property<M: Memory>(
         }
         Some(old) => {
             let old = Units::from_slice(alloc, old.as_slice())?;
-            let made = old.as_slice().len() as u64 + 1;
-            if *left <= cost || *left - cost <= units || *left - cost - units <= made {
-                return Ok(Next::Over);
-            }
-            memory.put_store(Part::Prop, name, text)?;
-            let object = memory.make(Head {
-                kind: Kind::Class(STRING),
-                length: 0,
-            })?;
-            memory.put_text(object, old)?;
-            *left = *left - cost - units - made;
-            Ok(answer(stack, p, Value::Obj(object), next, left))
+            replace_property(stack, memory, p, own, name, text, old, units, next, left)
         }
     }
+}
+
+/// The property has this text, or is taken away, and its former one is answered. It counts and answers Over as above.
+fn replace_property<M: Memory>(
+    stack: &mut FrameStack,
+    memory: &mut M,
+    p: &Program,
+    own: &Own,
+    name: Units,
+    text: Option<Units>,
+    former: Units,
+    units: u64,
+    next: u32,
+    left: &mut u64,
+) -> Result<Next, NoMemory>
+    requires place { IsNext p.now stack.old next }
+    requires room { HasRoom 1 stack.old }
+    requires row { IsReady (λ q s. changes_property q s (operands s) name units text (Some former))
+        p.now M.program M.world memory.old (with_own stack.old own.now) }
+    ensures made { Makes (λ q s. changes_property q s (operands s) name units text (Some former))
+        M.program M.world M.follows memory.old memory.new (with_own stack.old own.now) left.old
+        result (with_own stack.new own.now) left.new }
+{
+    let cost = name.as_slice().len() as u64;
+    let made = former.as_slice().len() as u64 + 1;
+    if *left <= cost || *left - cost <= units || *left - cost - units <= made {
+        return Ok(Next::Over);
+    }
+    memory.put_store(Part::Prop, name, text)?;
+    let object = memory.make(Head {
+        kind: Kind::Class(STRING),
+        length: 0,
+    })?;
+    memory.put_text(object, former)?;
+    *left = *left - cost - units - made;
+    Ok(answer(stack, p, Value::Obj(object), next, left))
 }
