@@ -6,7 +6,7 @@ use et_base::Items;
 
 /// A test that ended: the rows of its edges, the walk to the object of each part that these show where walks are kept, how
 /// many objects there were then, and whether each of its exposed reads is of the static `System.out`.
-#[derive(Debug, Drop)]
+#[derive(Drop)]
 pub struct Ended {
     pub rows: Items<Row>,
     pub walks: Items<Items<Items<LocationKey>>>,

@@ -15,7 +15,7 @@ const SHOWN: u32 = 8;
 
 /// The conflicts of one kind of a test with an earlier one: how many locations they are at, and the first 8 of these in
 /// the order in which the test touched them first.
-#[derive(Debug, Drop)]
+#[derive(Drop)]
 pub struct Row {
     pub kind: EdgeKind,
     pub earlier: u32,

@@ -9,13 +9,13 @@ use std::alloc::Global;
 use std::marker::Model;
 
 /// Locations in order, which contracts see as their list. One alone takes no memory of its own, as most rows show no more.
-#[derive(Debug, Drop)]
+#[derive(Drop)]
 pub struct Spots {
     held: Held,
 }
 
 /// Where the locations stand.
-#[derive(Debug, Drop)]
+#[derive(Drop)]
 pub enum Held {
     Nowhere,
     Here([LocationKey; 1]),

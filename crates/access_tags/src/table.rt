@@ -9,7 +9,7 @@ use et_base::{Items, NoMemory};
 use std::alloc::Global;
 
 /// A row for each kind and each test before the one with the number `later`.
-#[derive(Debug, Drop)]
+#[derive(Drop)]
 pub struct Table {
     later: u32,
     rows: Vec<Row>,
