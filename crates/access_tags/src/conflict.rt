@@ -4,7 +4,7 @@ use order_law::EdgeKind;
 
 /// A part of the memory: a static, a class state, the head, a field, an element or the text of an object, or a file or
 /// property by the number of its name.
-#[derive(Clone, Copy, PartialEq, Eq)]
+#[derive(Clone, Copy)]
 pub enum LocationKey {
     Static { field: u32 },
     Init { class: u32 },
@@ -57,14 +57,14 @@ impl LocationKey {
 }
 
 /// A part that was touched, and its number: of a name among the names, and of any other part among those.
-#[derive(Clone, Copy, PartialEq, Eq)]
+#[derive(Clone, Copy)]
 pub struct Touched {
     pub spot: LocationKey,
     pub at: u64,
 }
 
 /// A conflict with an earlier test.
-#[derive(Clone, Copy, PartialEq, Eq)]
+#[derive(Clone, Copy)]
 pub struct Conflict<P> {
     pub kind: EdgeKind,
     pub earlier: u32,

@@ -14,7 +14,7 @@ use std::alloc::Global;
 
 /// The first read that gave an object, in the last test where one did: the number of that test, 0 for none, and what was
 /// read.
-#[derive(Clone, Copy, PartialEq, Eq)]
+#[derive(Clone, Copy)]
 pub struct ParentEdge {
     pub test: u32,
     pub from: LocationKey,

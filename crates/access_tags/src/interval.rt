@@ -7,7 +7,7 @@ ghost use Rattle.access_tags.specs.Numbering.{is_name};
 use crate::conflict::{LocationKey, Touched};
 
 /// What a part is.
-#[derive(Clone, Copy, PartialEq, Eq)]
+#[derive(Clone, Copy)]
 pub enum Sort {
     Static,
     Init,
@@ -51,7 +51,7 @@ impl Sort {
 
 /// Parts of one sort and object that were touched one after the other: those from the index `first` up to but not `end`.
 /// The first has the number `at`, and each other one the next. However many there are, they take 20 bytes.
-#[derive(Clone, Copy, PartialEq, Eq)]
+#[derive(Clone, Copy)]
 pub struct Interval {
     pub sort: Sort,
     pub object: u32,

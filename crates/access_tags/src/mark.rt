@@ -5,7 +5,7 @@ ghost use Rattle.access_tags.specs.Tag.{covers, marked, is_new};
 
 /// What the running test did at a location: whether it has an exposed read of it, which no write of its own precedes, and
 /// whether it wrote it.
-#[derive(Clone, Copy, PartialEq, Eq)]
+#[derive(Clone, Copy)]
 pub struct Mark {
     pub exposed: bool,
     pub written: bool,
@@ -13,7 +13,7 @@ pub struct Mark {
 
 /// What the tests that ended did at a location: its last writer, 0 for none, and the number of the latest of the readers
 /// since, 0 for none.
-#[derive(Clone, Copy, PartialEq, Eq)]
+#[derive(Clone, Copy)]
 pub struct Past {
     pub writer: u32,
     pub readers: u32,

@@ -52,6 +52,10 @@ allowance of_files = 4
 allowance of_env = 4
 allowance _ = 3
 
+-- what is within the limit with three touches more is within it
+under : (d n : ℕ) → d + 3 ≤ n → d ≤ n
+under d n h = omega arith
+
 module _ (p : Program) (lk : Linked p) {M : Limits} (s : Working) where
   -- a new String: its head and its text
   makes_string : (m d n : ℕ) (t : List ℕ) {k : ℕ → Access (Answer Working)} → d + suc (suc m) ≤ n → ((e o : ℕ) → e + m ≤ n → PacedRow p M n e (k o)) → PacedRow p M n d (makes_text p t k)
@@ -141,54 +145,54 @@ module _ (p : Program) (lk : Linked p) {M : Limits} (s : Working) where
 
   object-native : (d n : ℕ) (x : Native) → native_group x ≡ of_object → d + 3 ≤ n → PacedRow p M n d (native_object p x s)
   unfolding native_object
-  object-native d n native.ObjectInit i h = pop p lk d n (operands s) (omega arith) (λ r vs. went p (omega arith))
-  object-native d n native.ObjectEquals i h = pop p lk d n (operands s) (omega arith) (λ v vs. pop p lk d n vs (omega arith) (λ r ws. went p (omega arith)))
-  object-native d n native.ObjectHashCode i h = pop p lk d n (operands s) (omega arith) (λ r vs. went p (omega arith))
+  object-native d n native.ObjectInit i h = let k = under d n h in pop p lk d n (operands s) k (λ r vs. went p (omega arith))
+  object-native d n native.ObjectEquals i h = let k = under d n h in pop p lk d n (operands s) k (λ v vs. pop p lk d n vs k (λ r ws. went p (omega arith)))
+  object-native d n native.ObjectHashCode i h = let k = under d n h in pop p lk d n (operands s) k (λ r vs. went p (omega arith))
   object-native d n _ i h = absurd (cc)
 
   throwable-native : (d n : ℕ) (x : Native) → native_group x ≡ of_throwable → d + 3 ≤ n → PacedRow p M n d (native_throwable p x s)
   unfolding native_throwable
-  throwable-native d n native.ThrowableInit i h = pop p lk d n (operands s) (omega arith) (λ r vs. went p (omega arith))
-  throwable-native d n native.ThrowableInitString i h = pop p lk d n (operands s) (omega arith) (λ v vs. pop p lk d n vs (omega arith) (λ r ws. object p lk d n (with_operands s ws) r (omega arith) (λ o. sets d n o v ws (omega arith))))
-  throwable-native d n native.ThrowableGetMessage i h = pop p lk d n (operands s) (omega arith) (λ r vs. object p lk d n (with_operands s vs) r (omega arith) (λ o. paced_read tt (λ v. went p (omega arith))))
-  throwable-native d n native.AssertionInitObject i h = pop p lk d n (operands s) (omega arith) (λ v vs. pop p lk d n vs (omega arith) (λ r ws. keeps_any d n r v ws (omega arith)))
-  throwable-native d n native.AssertionInitInt i h = pop p lk d n (operands s) (omega arith) (λ v vs. pop p lk d n vs (omega arith) (λ r ws. int p lk d n v (omega arith) (λ j. makes d n (signed_decimal j) r ws (omega arith))))
-  throwable-native d n native.AssertionInitLong i h = pop p lk d n (operands s) (omega arith) (λ v vs. pop p lk d n vs (omega arith) (λ r ws. long p lk d n v (omega arith) (λ j. makes d n (signed_decimal j) r ws (omega arith))))
-  throwable-native d n native.AssertionInitBoolean i h = pop p lk d n (operands s) (omega arith) (λ v vs. pop p lk d n vs (omega arith) (λ r ws. int p lk d n v (omega arith) (λ j. makes d n (boolean_text j) r ws (omega arith))))
-  throwable-native d n native.AssertionInitChar i h = pop p lk d n (operands s) (omega arith) (λ v vs. pop p lk d n vs (omega arith) (λ r ws. int p lk d n v (omega arith) (λ j. makes d n (char_of j ∷ []) r ws (omega arith))))
+  throwable-native d n native.ThrowableInit i h = let k = under d n h in pop p lk d n (operands s) k (λ r vs. went p (omega arith))
+  throwable-native d n native.ThrowableInitString i h = let k = under d n h in pop p lk d n (operands s) k (λ v vs. pop p lk d n vs k (λ r ws. object p lk d n (with_operands s ws) r k (λ o. sets d n o v ws (omega arith))))
+  throwable-native d n native.ThrowableGetMessage i h = let k = under d n h in pop p lk d n (operands s) k (λ r vs. object p lk d n (with_operands s vs) r k (λ o. paced_read tt (λ v. went p (omega arith))))
+  throwable-native d n native.AssertionInitObject i h = let k = under d n h in pop p lk d n (operands s) k (λ v vs. pop p lk d n vs k (λ r ws. keeps_any d n r v ws (omega arith)))
+  throwable-native d n native.AssertionInitInt i h = let k = under d n h in pop p lk d n (operands s) k (λ v vs. pop p lk d n vs k (λ r ws. int p lk d n v k (λ j. makes d n (signed_decimal j) r ws k)))
+  throwable-native d n native.AssertionInitLong i h = let k = under d n h in pop p lk d n (operands s) k (λ v vs. pop p lk d n vs k (λ r ws. long p lk d n v k (λ j. makes d n (signed_decimal j) r ws k)))
+  throwable-native d n native.AssertionInitBoolean i h = let k = under d n h in pop p lk d n (operands s) k (λ v vs. pop p lk d n vs k (λ r ws. int p lk d n v k (λ j. makes d n (boolean_text j) r ws k)))
+  throwable-native d n native.AssertionInitChar i h = let k = under d n h in pop p lk d n (operands s) k (λ v vs. pop p lk d n vs k (λ r ws. int p lk d n v k (λ j. makes d n (char_of j ∷ []) r ws k)))
   throwable-native d n _ i h = absurd (cc)
 
   string-native : (d n : ℕ) (x : Native) → native_group x ≡ of_string → d + 3 ≤ n → PacedRow p M n d (native_string p x s)
   unfolding native_string
-  string-native d n native.StringLength i h = pop p lk d n (operands s) (omega arith) (λ r vs. text p lk 0 d n (with_operands s vs) r (omega arith) (λ e t g. went p (omega arith)))
-  string-native d n native.StringIsEmpty i h = pop p lk d n (operands s) (omega arith) (λ r vs. text p lk 0 d n (with_operands s vs) r (omega arith) (λ e t g. went p (omega arith)))
-  string-native d n native.StringCharAt i h = pop p lk d n (operands s) (omega arith) (λ v vs. pop p lk d n vs (omega arith) (λ r ws. int p lk d n v (omega arith) (λ j. text p lk 0 d n (with_operands s ws) r (omega arith) (λ e t g. index e n j (length t) ws (omega arith) (λ k. went p (omega arith))))))
-  string-native d n native.StringEquals i h = pop p lk d n (operands s) (omega arith) (λ v vs. pop p lk d n vs (omega arith) (λ r ws. equals d n r v ws (omega arith)))
-  string-native d n native.StringHashCode i h = pop p lk d n (operands s) (omega arith) (λ r vs. text p lk 0 d n (with_operands s vs) r (omega arith) (λ e t g. paced_spend (went p (omega arith))))
-  string-native d n native.StringSubstringFrom i h = pop p lk d n (operands s) (omega arith) (λ v vs. pop p lk d n vs (omega arith) (λ r ws. int p lk d n v (omega arith) (λ a. text p lk 0 d n (with_operands s ws) r (omega arith) (λ e t g. part e n t a (pos (length t)) ws (omega arith)))))
-  string-native d n native.StringSubstring i h = pop p lk d n (operands s) (omega arith) (λ u us. pop p lk d n us (omega arith) (λ v vs. pop p lk d n vs (omega arith) (λ r ws. int p lk d n u (omega arith) (λ b. int p lk d n v (omega arith) (λ a.
+  string-native d n native.StringLength i h = let k = under d n h in pop p lk d n (operands s) k (λ r vs. text p lk 0 d n (with_operands s vs) r (omega arith) (λ e t g. went p (omega arith)))
+  string-native d n native.StringIsEmpty i h = let k = under d n h in pop p lk d n (operands s) k (λ r vs. text p lk 0 d n (with_operands s vs) r (omega arith) (λ e t g. went p (omega arith)))
+  string-native d n native.StringCharAt i h = let k = under d n h in pop p lk d n (operands s) k (λ v vs. pop p lk d n vs k (λ r ws. int p lk d n v k (λ j. text p lk 0 d n (with_operands s ws) r (omega arith) (λ e t g. index e n j (length t) ws (omega arith) (λ k. went p (omega arith))))))
+  string-native d n native.StringEquals i h = let k = under d n h in pop p lk d n (operands s) k (λ v vs. pop p lk d n vs k (λ r ws. equals d n r v ws (omega arith)))
+  string-native d n native.StringHashCode i h = let k = under d n h in pop p lk d n (operands s) k (λ r vs. text p lk 0 d n (with_operands s vs) r (omega arith) (λ e t g. paced_spend (went p (omega arith))))
+  string-native d n native.StringSubstringFrom i h = let k = under d n h in pop p lk d n (operands s) k (λ v vs. pop p lk d n vs k (λ r ws. int p lk d n v k (λ a. text p lk 0 d n (with_operands s ws) r (omega arith) (λ e t g. part e n t a (pos (length t)) ws (omega arith)))))
+  string-native d n native.StringSubstring i h = let k = under d n h in pop p lk d n (operands s) k (λ u us. pop p lk d n us k (λ v vs. pop p lk d n vs k (λ r ws. int p lk d n u k (λ b. int p lk d n v k (λ a.
       text p lk 0 d n (with_operands s ws) r (omega arith) (λ e t g. part e n t a b ws (omega arith)))))))
-  string-native d n native.StringConcat i h = pop p lk d n (operands s) (omega arith) (λ v vs. pop p lk d n vs (omega arith) (λ r ws. reference p lk d n (with_operands s ws) v (omega arith) (text p lk 1 d n (with_operands s ws) r (omega arith) (λ e t g.
+  string-native d n native.StringConcat i h = let k = under d n h in pop p lk d n (operands s) k (λ v vs. pop p lk d n vs k (λ r ws. reference p lk d n (with_operands s ws) v k (text p lk 1 d n (with_operands s ws) r (omega arith) (λ e t g.
       text p lk 0 e n (with_operands s ws) v (omega arith) (λ f u j. join f n r ws t u (omega arith))))))
-  string-native d n native.StringToString i h = pop p lk d n (operands s) (omega arith) (λ r vs. went p (omega arith))
-  string-native d n native.StringOfInt i h = pop p lk d n (operands s) (omega arith) (λ v vs. int p lk d n v (omega arith) (λ j. string d n 0 (signed_decimal j) vs (omega arith)))
-  string-native d n native.StringOfLong i h = pop p lk d n (operands s) (omega arith) (λ v vs. long p lk d n v (omega arith) (λ j. string d n 0 (signed_decimal j) vs (omega arith)))
-  string-native d n native.StringOfBoolean i h = pop p lk d n (operands s) (omega arith) (λ v vs. int p lk d n v (omega arith) (λ j. string d n 0 (boolean_text j) vs (omega arith)))
-  string-native d n native.StringOfChar i h = pop p lk d n (operands s) (omega arith) (λ v vs. int p lk d n v (omega arith) (λ j. string d n 0 (char_of j ∷ []) vs (omega arith)))
+  string-native d n native.StringToString i h = let k = under d n h in pop p lk d n (operands s) k (λ r vs. went p (omega arith))
+  string-native d n native.StringOfInt i h = let k = under d n h in pop p lk d n (operands s) k (λ v vs. int p lk d n v k (λ j. string d n 0 (signed_decimal j) vs k))
+  string-native d n native.StringOfLong i h = let k = under d n h in pop p lk d n (operands s) k (λ v vs. long p lk d n v k (λ j. string d n 0 (signed_decimal j) vs k))
+  string-native d n native.StringOfBoolean i h = let k = under d n h in pop p lk d n (operands s) k (λ v vs. int p lk d n v k (λ j. string d n 0 (boolean_text j) vs k))
+  string-native d n native.StringOfChar i h = let k = under d n h in pop p lk d n (operands s) k (λ v vs. int p lk d n v k (λ j. string d n 0 (char_of j ∷ []) vs k))
   string-native d n _ i h = absurd (cc)
 
   builder-native : (d n : ℕ) (x : Native) → native_group x ≡ of_builder → d + 3 ≤ n → PacedRow p M n d (native_builder p x s)
   unfolding native_builder
-  builder-native d n native.BuilderInit i h = pop p lk d n (operands s) (omega arith) (λ r vs. object p lk d n (with_operands s vs) r (omega arith) (λ o. paced_write tt (went p (omega arith))))
-  builder-native d n native.BuilderInitString i h = pop p lk d n (operands s) (omega arith) (λ v vs. pop p lk d n vs (omega arith) (λ r ws. text p lk 1 d n (with_operands s ws) v (omega arith) (λ e t g.
+  builder-native d n native.BuilderInit i h = let k = under d n h in pop p lk d n (operands s) k (λ r vs. object p lk d n (with_operands s vs) r k (λ o. paced_write tt (went p (omega arith))))
+  builder-native d n native.BuilderInitString i h = let k = under d n h in pop p lk d n (operands s) k (λ v vs. pop p lk d n vs k (λ r ws. text p lk 1 d n (with_operands s ws) v (omega arith) (λ e t g.
       object p lk e n (with_operands s ws) r (omega arith) (λ o. paced_spend (paced_write tt (went p (omega arith)))))))
-  builder-native d n native.BuilderAppendString i h = pop p lk d n (operands s) (omega arith) (λ v vs. pop p lk d n vs (omega arith) (λ r ws. appends_any d n r v ws (omega arith)))
-  builder-native d n native.BuilderAppendInt i h = pop p lk d n (operands s) (omega arith) (λ v vs. pop p lk d n vs (omega arith) (λ r ws. int p lk d n v (omega arith) (λ j. adds d n (signed_decimal j) r ws (omega arith))))
-  builder-native d n native.BuilderAppendLong i h = pop p lk d n (operands s) (omega arith) (λ v vs. pop p lk d n vs (omega arith) (λ r ws. long p lk d n v (omega arith) (λ j. adds d n (signed_decimal j) r ws (omega arith))))
-  builder-native d n native.BuilderAppendBoolean i h = pop p lk d n (operands s) (omega arith) (λ v vs. pop p lk d n vs (omega arith) (λ r ws. int p lk d n v (omega arith) (λ j. adds d n (boolean_text j) r ws (omega arith))))
-  builder-native d n native.BuilderAppendChar i h = pop p lk d n (operands s) (omega arith) (λ v vs. pop p lk d n vs (omega arith) (λ r ws. int p lk d n v (omega arith) (λ j. adds d n (char_of j ∷ []) r ws (omega arith))))
-  builder-native d n native.BuilderLength i h = pop p lk d n (operands s) (omega arith) (λ r vs. object p lk d n (with_operands s vs) r (omega arith) (λ o. paced_read tt (λ t. went p (omega arith))))
-  builder-native d n native.BuilderToString i h = pop p lk d n (operands s) (omega arith) (λ r vs. object p lk d n (with_operands s vs) r (omega arith) (λ o. paced_read tt (λ t. string (suc d) n 0 t vs (omega arith))))
+  builder-native d n native.BuilderAppendString i h = let k = under d n h in pop p lk d n (operands s) k (λ v vs. pop p lk d n vs k (λ r ws. appends_any d n r v ws (omega arith)))
+  builder-native d n native.BuilderAppendInt i h = let k = under d n h in pop p lk d n (operands s) k (λ v vs. pop p lk d n vs k (λ r ws. int p lk d n v k (λ j. adds d n (signed_decimal j) r ws (omega arith))))
+  builder-native d n native.BuilderAppendLong i h = let k = under d n h in pop p lk d n (operands s) k (λ v vs. pop p lk d n vs k (λ r ws. long p lk d n v k (λ j. adds d n (signed_decimal j) r ws (omega arith))))
+  builder-native d n native.BuilderAppendBoolean i h = let k = under d n h in pop p lk d n (operands s) k (λ v vs. pop p lk d n vs k (λ r ws. int p lk d n v k (λ j. adds d n (boolean_text j) r ws (omega arith))))
+  builder-native d n native.BuilderAppendChar i h = let k = under d n h in pop p lk d n (operands s) k (λ v vs. pop p lk d n vs k (λ r ws. int p lk d n v k (λ j. adds d n (char_of j ∷ []) r ws (omega arith))))
+  builder-native d n native.BuilderLength i h = let k = under d n h in pop p lk d n (operands s) k (λ r vs. object p lk d n (with_operands s vs) r k (λ o. paced_read tt (λ t. went p (omega arith))))
+  builder-native d n native.BuilderToString i h = let k = under d n h in pop p lk d n (operands s) k (λ r vs. object p lk d n (with_operands s vs) r k (λ o. paced_read tt (λ t. string (suc d) n 0 t vs (omega arith))))
   builder-native d n _ i h = absurd (cc)
 
   system-native : (d n : ℕ) (x : Native) → native_group x ≡ of_system → d + 4 ≤ n → PacedRow p M n d (native_system p x s)
