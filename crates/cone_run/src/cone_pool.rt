@@ -133,7 +133,47 @@ fn finish<N: BookName, G: Gate, L: Ledger>(
     Ok(all)
 }
 
-/// Lets workers take the cones, and runs on the first one's machine what is left after the join.
+/// The machine of the last of these workers, or a fresh one where there is none. The only error is want of memory.
+fn machine_of<'p, N: BookName>(
+    alloc: Global,
+    p: &'p Checked,
+    slots: Vec<Slot<'p, N>>,
+) -> Result<Machine<'p, RegionMemory>, NoMemory>
+    requires program { p.now ≡ N.program }
+    ensures { IfOk result (λ m. m.program ≡ N.program) }
+{
+    let mut slots = slots;
+    match slots.pop() {
+        Some(slot) => Ok(slot.into_machine()),
+        None => fresh_machine(alloc, p, 1),
+    }
+}
+
+/// Lets workers take the cones and post their pieces in a book, and answers the machine of one of them. The only error is
+/// want of memory.
+fn post_cones<'p, N: BookName + Send + Sync, R: Threads + Wait + Sync, G: Gate + Sync>(
+    rt: &R,
+    alloc: Global,
+    p: &'p Checked,
+    cones: &[Items<u32>],
+    shares: &[Items<u32>],
+    gate: &G,
+    book: &Mutex<Book<N>>,
+) -> Result<Machine<'p, RegionMemory>, NoMemory>
+    requires program { p.now ≡ N.program }
+    requires suite { IsConeSuite N.program N.edges N.selected }
+    requires cones { AreCones N.edges N.selected cones.now }
+    requires workers { (length shares.now ≡ N.workers) × (N.workers < 2 ^ 32) }
+    requires short { All (λ l. length l < 2 ^ 32) shares.now }
+    ensures { IfOk result (λ m. m.program ≡ N.program) }
+{
+    let mut slots = slots_of::<N>(alloc, p, shares)?;
+    let jobs = ConeJobs::<N>::new(book, cones);
+    work_all(rt, &jobs, gate, slots.as_mut_slice());
+    machine_of::<N>(alloc, p, slots)
+}
+
+/// Lets workers take the cones, and runs on a machine of one of them what is left after the join.
 fn run_cones<N: BookName + Send + Sync, R: Threads + Wait + Sync, G: Gate + Sync, L: Ledger>(
     rt: &R,
     alloc: Global,
@@ -158,15 +198,11 @@ fn run_cones<N: BookName + Send + Sync, R: Threads + Wait + Sync, G: Gate + Sync
 {
     let lists = cones_of(alloc, g, sel)?;
     let cones = lists.as_slice();
-    let mut slots = slots_of::<N>(alloc, p, shares)?;
     let book = Mutex::new(Book::<N>::new(alloc, sel.len())?);
-    let jobs = ConeJobs::<N>::new(&book, cones);
-    work_all(rt, &jobs, gate, slots.as_mut_slice());
-    let mut machine = match slots.pop() {
-        Some(slot) => slot.into_machine(),
-        None => fresh_machine(alloc, p, 1)?,
-    };
-    finish(alloc, gate, &mut machine, cones, book.into_inner(), steps)
+    let mut machine = post_cones::<N, R, G>(rt, alloc, p, cones, shares, gate, &book)?;
+    let pieces = finish(alloc, gate, &mut machine, cones, book.into_inner(), steps);
+    drop(machine);
+    pieces
 }
 
 /// Runs the cone of each selected test on a machine that was set back, on so many workers. Each test has a piece: its list is

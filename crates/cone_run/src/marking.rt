@@ -148,5 +148,7 @@ pub fn manifest<L: Ledger>(
 {
     let tests = p.program().tests.len();
     let mut machine = fresh_machine(alloc, p, 1)?;
-    marks_on(alloc, g, &mut machine, tests, steps)
+    let marks = marks_on(alloc, g, &mut machine, tests, steps);
+    drop(machine);
+    marks
 }

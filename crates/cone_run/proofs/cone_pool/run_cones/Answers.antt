@@ -13,14 +13,14 @@ new-requires-clause-few g c =
     let same = ap (λ (l : List ℕ). length l) c.requires.selected in
     omega (arith, few, same)
 
-pub new-jobs-requires-clause-cones : goal.new-jobs-requires-clause-cones
-new-jobs-requires-clause-cones g c =
+pub post_cones-requires-clause-cones : goal.post_cones-requires-clause-cones
+post_cones-requires-clause-cones g c κs within =
     subst (λ (z : List (List ℕ)). AreCones g.N.BookName.edges g.N.BookName.selected z) (sym c.as_slice-cones.ensures)
     (subst (λ (r : List Edge). AreCones r g.N.BookName.selected c.in_ok-lists.lists) c.requires.edges
     (subst (λ (z : List ℕ). AreCones c.args.g.now z c.in_ok-lists.lists) c.requires.selected c.in_ok-lists.ensures))
 
-pub finish-requires-clause-cones : goal.finish-requires-clause-cones
-finish-requires-clause-cones g c =
+pub finish-pieces-requires-clause-cones : goal.finish-pieces-requires-clause-cones
+finish-pieces-requires-clause-cones g c =
     subst (λ (z : List (List ℕ)). AreCones g.N.BookName.edges g.N.BookName.selected z) (sym c.as_slice-cones.ensures)
     (subst (λ (r : List Edge). AreCones r g.N.BookName.selected c.in_ok-lists.lists) c.requires.edges
     (subst (λ (z : List ℕ). AreCones c.args.g.now z c.in_ok-lists.lists) c.requires.selected c.in_ok-lists.ensures))
