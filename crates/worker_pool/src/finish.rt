@@ -38,7 +38,9 @@ fn run_again<G: Gate>(
 {
     let list = core.posts(worker);
     let mut machine = fresh_machine(alloc, p, worker)?;
-    run_after(gate, &mut machine, worker, list, test)
+    let piece = run_after(gate, &mut machine, worker, list, test);
+    drop(machine);
+    piece
 }
 
 /// Runs the next test of the worker's chain in hand on a machine that runs the worker's posts again first.
