@@ -38,6 +38,7 @@ impl<'a> Progress<'a> {
         let start = self.start?;
         let passed = self.rt.monotonic().ok()?.saturating_sub(start).as_secs();
         let due = self.due.load(Ordering::SeqCst);
+        // no clock passes 2^63 seconds
         let next = passed.wrapping_mul(2);
         let is_due = due <= passed
             && self
