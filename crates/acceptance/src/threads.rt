@@ -397,7 +397,8 @@ fn pieces_of(alloc: Global, p: &Checked) -> Result<Option<Pieces>, NoMemory>
 
 // What the board of a run answers two workers in turn; whether it is that of a plain list of claims and posts.
 fn answers_in_turn<N: RunName, R: Wait>(rt: &R, core: Core, pieces: Pieces) -> bool
-    requires run { (core.program ≡ N.program) × (core.chains ≡ N.chains) × (core.workers ≡ N.workers) }
+    requires run { (core.program ≡ N.program) × (core.chains ≡ N.chains)
+        × (core.workers ≡ N.workers) }
     requires chains { length N.chains ≡ 2 }
     requires workers { N.workers ≡ 2 }
     requires pieces { (pieces.early.program ≡ N.program) × (pieces.early.worker ≡ 2)

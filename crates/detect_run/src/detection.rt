@@ -157,7 +157,8 @@ fn found_on<L: Ledger>(
     requires classes { length prints.now.classes ≡ length p.now.classes - builtin_count }
     requires program { machine.old.program ≡ p.now }
     requires ready { machine.old.spent ≡ false }
-    requires world { ⟦<TaggedMemory<true> as Memory>⟧.world machine.old.memory ≡ suite.opening p.now }
+    requires world { ⟦<TaggedMemory<true> as Memory>⟧.world machine.old.memory
+        ≡ suite.opening p.now }
     requires follows { ⟦<TaggedMemory<true> as Memory>⟧.follows machine.old.memory empty_trace [] }
     ensures found { IfOk result (IsDetection p.now prints.now) }
     ensures counted { IfOk result (λ d. steps.new ≡ steps.old + sum d.kept.units) }
@@ -179,7 +180,8 @@ fn record_on<L: Ledger>(
     requires classes { length prints.now.classes ≡ length p.now.classes - builtin_count }
     requires program { machine.old.program ≡ p.now }
     requires ready { machine.old.spent ≡ false }
-    requires world { ⟦<TaggedMemory<false> as Memory>⟧.world machine.old.memory ≡ suite.opening p.now }
+    requires world { ⟦<TaggedMemory<false> as Memory>⟧.world machine.old.memory
+        ≡ suite.opening p.now }
     requires follows { ⟦<TaggedMemory<false> as Memory>⟧.follows machine.old.memory empty_trace [] }
     ensures found { IfOk result (IsDetectedRecord p.now prints.now) }
     ensures counted { IfOk result (λ r. steps.new ≡ steps.old + sum r.units) }

@@ -64,7 +64,8 @@ impl<S: Sink + Drop> Sink for Heard<S> {
         ensures none_taken { result_unwrap_or result 0 ≡ 0 →
             Rose (S.shown self.old).faults (S.shown self.new).faults }
 
-        ensures room { (S.shown self.new).room ≡ lowered (S.shown self.old).room (result_unwrap_or result 0) }
+        ensures room { (S.shown self.new).room
+            ≡ lowered (S.shown self.old).room (result_unwrap_or result 0) }
         ensures has_room { HasRoom (S.shown self.old).room (length piece.now) →
             (S.shown self.new).faults ≡ (S.shown self.old).faults }
     {

@@ -72,7 +72,8 @@ fn reported<D: Depot, L: Ledger>(
     steps: &mut Steps<L>,
 ) -> Result<Report, Status>
     requires served { IsServed ask.now.command }
-    ensures { AnswersAny ask.now (D.shown depot.old) (D.shown depot.new) steps.old steps.new result }
+    ensures { AnswersAny ask.now (D.shown depot.old) (D.shown depot.new)
+        steps.old steps.new result }
 {
     let loaded = load_for(alloc, ask, depot)?;
     report_for(alloc, &loaded, ask, depot, steps)

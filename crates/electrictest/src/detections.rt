@@ -98,7 +98,8 @@ fn deps_report<L: Ledger>(
     steps: &mut Steps<L>,
 ) -> Result<Report, Status>
     requires suite { IsSuite loaded.now }
-    ensures reports { IfOk result (λ r. let found = IsFound loaded.now (detection.dependences json) in
+    ensures reports { IfOk result (λ r.
+        let found = IsFound loaded.now (detection.dependences json) in
         AreCounted (found r.passed r.text) steps.old steps.new) }
     ensures refused { IfErr result (RunRefused loaded.now) }
 {

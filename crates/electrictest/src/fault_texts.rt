@@ -28,7 +28,8 @@ fn word(why: Why) -> &'static [u8]
 
 /// Appends the first faulty line of a suite text, by its number from 1, and what is wrong with it.
 pub fn push_suite_fault(out: &mut Text, line: u32, why: Why) -> Result<(), NoMemory>
-    ensures { OnOk result (out.new ≡ out.old ++ (codes "suite " ++ (decimal line ++ (32 ∷ why_text why)))) }
+    ensures { OnOk result
+        (out.new ≡ out.old ++ (codes "suite " ++ (decimal line ++ (32 ∷ why_text why)))) }
 {
     out.extend_from_slice(b"suite ")?;
     push_decimal(out, line as u64)?;
@@ -69,7 +70,8 @@ fn push_three(
     second: u32,
     third: u32,
 ) -> Result<(), NoMemory>
-    ensures { OnOk result (out.new ≡ out.old ++ (word.now ++ (decimal first ++ (32 ∷ two second third)))) }
+    ensures { OnOk result
+        (out.new ≡ out.old ++ (word.now ++ (decimal first ++ (32 ∷ two second third)))) }
 {
     out.extend_from_slice(word)?;
     push_decimal(out, first as u64)?;
@@ -105,7 +107,8 @@ fn push_class_text(out: &mut Text, fault: ClassFault) -> Result<(), NoMemory>
 
 /// Appends the first fault of the class file of this name.
 pub fn push_class_fault(out: &mut Text, name: &Text, fault: ClassFault) -> Result<(), NoMemory>
-    ensures { OnOk result (out.new ≡ out.old ++ (codes "class " ++ (name.now ++ (32 ∷ class_text fault)))) }
+    ensures { OnOk result
+        (out.new ≡ out.old ++ (codes "class " ++ (name.now ++ (32 ∷ class_text fault)))) }
 {
     out.extend_from_slice(b"class ")?;
     out.extend_from_slice(name.as_slice())?;
@@ -123,7 +126,8 @@ fn push_named(out: &mut Text, word: &[u8], name: &Units) -> Result<(), NoMemory>
 
 // Appends a word and two names.
 fn push_names(out: &mut Text, word: &[u8], first: &Units, second: &Units) -> Result<(), NoMemory>
-    ensures { OnOk result (out.new ≡ out.old ++ (word.now ++ (name_of first.now ++ (32 ∷ name_of second.now)))) }
+    ensures { OnOk result
+        (out.new ≡ out.old ++ (word.now ++ (name_of first.now ++ (32 ∷ name_of second.now)))) }
 {
     push_named(out, word, first)?;
     out.push(b' ')?;
@@ -132,7 +136,8 @@ fn push_names(out: &mut Text, word: &[u8], first: &Units, second: &Units) -> Res
 
 // Appends a word, a class and an index of its pool.
 fn push_entry(out: &mut Text, word: &[u8], class: &Units, index: u32) -> Result<(), NoMemory>
-    ensures { OnOk result (out.new ≡ out.old ++ (word.now ++ (name_of class.now ++ (32 ∷ decimal index)))) }
+    ensures { OnOk result
+        (out.new ≡ out.old ++ (word.now ++ (name_of class.now ++ (32 ∷ decimal index)))) }
 {
     push_named(out, word, class)?;
     out.push(b' ')?;
@@ -172,7 +177,9 @@ fn push_place(out: &mut Text, class: &Units, method: u32, pc: u32) -> Result<(),
 
 // Appends a broken rule and where it is broken.
 fn push_rule(out: &mut Text, class: &Units, method: u32, pc: u32, rule: u32) -> Result<(), NoMemory>
-    ensures { OnOk result (out.new ≡ out.old ++ (name_of class.now ++ (32 ∷ (two method pc ++ (codes " rule " ++ decimal rule))))) }
+    ensures { OnOk result
+        (out.new ≡ out.old ++ (name_of class.now
+            ++ (32 ∷ (two method pc ++ (codes " rule " ++ decimal rule))))) }
 {
     push_place(out, class, method, pc)?;
     push_one(out, b" rule ", rule)
@@ -180,7 +187,8 @@ fn push_rule(out: &mut Text, class: &Units, method: u32, pc: u32, rule: u32) -> 
 
 // Appends where a frame is missing.
 fn push_no_frame(out: &mut Text, class: &Units, method: u32, pc: u32) -> Result<(), NoMemory>
-    ensures { OnOk result (out.new ≡ out.old ++ (name_of class.now ++ (32 ∷ (two method pc ++ codes " no-frame")))) }
+    ensures { OnOk result
+        (out.new ≡ out.old ++ (name_of class.now ++ (32 ∷ (two method pc ++ codes " no-frame")))) }
 {
     push_place(out, class, method, pc)?;
     out.extend_from_slice(b" no-frame")
@@ -188,7 +196,9 @@ fn push_no_frame(out: &mut Text, class: &Units, method: u32, pc: u32) -> Result<
 
 // Appends a member that isn't served.
 fn push_unsupported(out: &mut Text, class: &Units, member: &Units) -> Result<(), NoMemory>
-    ensures { OnOk result (out.new ≡ out.old ++ (name_of class.now ++ (32 ∷ (name_of member.now ++ codes " unsupported")))) }
+    ensures { OnOk result
+        (out.new ≡ out.old ++ (name_of class.now
+            ++ (32 ∷ (name_of member.now ++ codes " unsupported")))) }
 {
     push_name(out, class.as_slice())?;
     push_named(out, b" ", member)?;

@@ -190,7 +190,8 @@ fn summed(
 ) -> Result<Report, NoMemory>
     requires few { length loaded.now.checked.tests ≤ 1024 }
     requires pooled { IsPooled loaded.now (beginning begun.now) workers pooled.now }
-    ensures { IfOk result (λ r. generated.IsSummed loaded.now (beginning begun.now) (begun.now.record)
+    ensures { IfOk result (λ r.
+        generated.IsSummed loaded.now (beginning begun.now) (begun.now.record)
         tests workers r.passed r.text (units_of pooled.now.core.events)) }
 {
     let chosen = pooled.chosen.set.as_slice();

@@ -126,7 +126,8 @@ pub fn plan_text(
 ) -> Result<Text, NoMemory>
     requires listed { HaveUnits chains.now.lists units.now }
     requires small { sum units.now < 2 ^ 64 }
-    ensures { IfOk result (λ text. text ≡ lines.plan_text chains.now.lists units.now plan.now.shares) }
+    ensures { IfOk result
+        (λ text. text ≡ lines.plan_text chains.now.lists units.now plan.now.shares) }
 {
     let mut out = Text::new(alloc);
     out.extend_from_slice(b"electric-plan 1\n")?;

@@ -154,7 +154,8 @@ pub fn electric<R: Threads + Wait + Sync, D: Depot, S: Sink, G: Gate + Sync, L: 
         OfHeld depot_now.told (λ files.
         EarlierAnswer (asked files) result (S.shown sink.old) (S.shown sink.new)) }
     // An eager form is over the suite without its quiet initialisers, in which each test ends as in the suite as it is.
-    ensures eager { OfHeld (D.shown depot.new).told (λ files. EagerAnswer files (threaded words.now)) }
+    ensures eager { OfHeld (D.shown depot.new).told
+        (λ files. EagerAnswer files (threaded words.now)) }
     // Where what is asked is accepted, and neither the depot nor the sink failed, nothing is refused.
     ensures complete { let depot_now = D.shown depot.new in
         let asked = called (threaded words.now) (D.shown depot.old) depot_now steps.old steps.new in

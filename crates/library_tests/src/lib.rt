@@ -43,6 +43,8 @@ mod quiet_init_tests;
 #[cfg(test)]
 mod sim_store_tests;
 #[cfg(test)]
+mod suite_gen_tests;
+#[cfg(test)]
 mod texts;
 #[cfg(test)]
 mod vm_arith_tests;

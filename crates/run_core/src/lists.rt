@@ -51,28 +51,26 @@ fn last_of(list: &[u32]) -> u32
 pub fn last_list<'a>(history: &'a Vec<Event>, worker: u32) -> &'a [u32]
     ensures { result.now ≡ last_list worker history.now.items }
 {
-    let mut list: &'a [u32] = &[];
-    for event in history.iter() {
-        if let Event::Post(piece) = event {
+    for place in (0..history.len()).rev() {
+        if let Event::Post(piece) = &history[place] {
             if piece.worker() == worker {
-                list = piece.list();
+                return piece.list();
             }
         }
     }
-    list
+    &[]
 }
 
 /// The outcome of the last post of a test.
 pub fn find_outcome<'a>(history: &'a Vec<Event>, test: u32) -> Option<&'a Outcome>
     ensures { option_copied result ≡ found_outcome test history.now.items }
 {
-    let mut found: Option<&'a Outcome> = None;
-    for event in history.iter() {
-        if let Event::Post(piece) = event {
+    for place in (0..history.len()).rev() {
+        if let Event::Post(piece) = &history[place] {
             if last_of(piece.list()) == test {
-                found = Some(piece.outcome());
+                return Some(piece.outcome());
             }
         }
     }
-    found
+    None
 }

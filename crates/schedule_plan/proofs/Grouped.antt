@@ -12,8 +12,12 @@ use Rattle.schedule_plan.proofs.Places.{member_get, place_of, rises, stands_befo
 use Rattle.schedule_plan.proofs.Joinings.{joined_in}
 
 -- ---- the list of a class
-pub class_begun : (tests labels : List ℕ) (label : ℕ) → IsClassOf tests labels label 0 []
-class_begun tests labels label = record { exact = λ t. (λ m. absurd m, λ h. let a : h.0 < 0 = h.1 in absurd (omega arith)); ascending = tt }
+-- no place before the one that a label names has it
+pub class_begun : (tests labels : List ℕ) (label : ℕ) → label < length tests → ((i : ℕ) → i < length tests → at labels i ≤ i) → IsClassOf tests labels label label []
+class_begun tests labels label within low = record {
+  exact = λ t. (λ m. absurd m, λ h. let a : h.0 < label = h.1 in let b = low h.0 (omega arith) in let e = h.2 in absurd (omega arith));
+  ascending = tt;
+}
 
 module _ (tests labels : List ℕ) (label i : ℕ) (rising : Ascending tests) (lt : i < length tests) (l : List ℕ) (is : IsClassOf tests labels label i l) where
   class_taken : at labels i ≡ label → IsClassOf tests labels label (i + 1) (l ++ (at tests i ∷ []))

@@ -1,7 +1,7 @@
 -- Lists of tests, a place further.
 use Rattle.std.proofs.Common.{◌≡◌, ◌⊎◌, ◌↔◌, IsTrue, ℕ, zero, suc, ◌+◌, ◌<◌, ◌≤◌, true, false, List, [], ◌∷◌, ◌++◌, length, get_or, take, refl, sym, ◌∙◌, ap, subst, inl, inr, arith, Some}
 use Rattle.std.proofs.lemmas.{Bool.false≢true, Bool.cases_lt, List.take_more, List.take_all, Option.slice_get-get_or}
-use Rattle.order_law.specs.{Conflicts.Member, Conflicts.Distinct, OrderFault.IsTwice}
+use Rattle.order_law.specs.{Conflicts.Member, Conflicts.Distinct, OrderFault.IsTwice, Plan.Ascending}
 use Rattle.order_law.proofs.Members.{member_either}
 
 pub member_at : (l : List ℕ) (q i t : ℕ) → q < i → i ≤ length l → get_or l q 0 ≡ t → Member t (take i l)
@@ -60,3 +60,12 @@ member_more l i t m = let p = member_place l i t m in let a : p.0 < i = p.1 in l
 pub member_less : (l : List ℕ) (n t : ℕ) → ((i : ℕ) → get_or l i 0 < n) → Member t l → t < n
 member_less [] n t f m = absurd m
 member_less (y ∷ l) n t f m = elim m [ inl e ↦ let h : y < n = f 0 in omega arith | inr j ↦ member_less l n t (λ i. f (suc i)) j ]
+
+-- ---- a list whose steps rise
+above_first : (y : ℕ) (l : List ℕ) → (0 < length l → y < get_or l 0 0) → Ascending l → (u : ℕ) → Member u l → y < u
+above_first y [] h a u m = absurd m
+above_first y (z ∷ l) h a u m = let x : y < z = h (omega arith) in elim m [ inl e ↦ omega arith | inr j ↦ let w = a.0 u j in omega arith ]
+
+pub ascending_by_steps : (l : List ℕ) → ((k : ℕ) → suc k < length l → get_or l k 0 < get_or l (suc k) 0) → Ascending l
+ascending_by_steps [] s = tt
+ascending_by_steps (y ∷ l) s = let rest = ascending_by_steps l (λ k h. s (suc k) (omega arith)) in (above_first y l (λ h. s 0 (omega arith)) rest, rest)

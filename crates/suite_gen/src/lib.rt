@@ -1,7 +1,7 @@
 //! Generated suites: their text, and the class file of their tests.
 //!
 //! Begin with `specs/Generated.antt`, the suite of k tests and the parts of its class, and
-//! `specs/Bytes.antt`, the class byte by byte (JVMS 4); then `tests.rt`, `class.rt` and `text.rt`.
+//! `specs/Bytes.antt`, the class byte by byte (JVMS 4); then `class.rt` and `text.rt`.
 //!
 //! - `generate` gives the suite text and the class file of the suite of k tests, for k from 1 to
 //!   1,024: static methods in groups of four that share a static int.
@@ -40,6 +40,3 @@ pub fn generate(alloc: Global, k: u32) -> Result<(Text, Vec<u8>), NoMemory>
     let class = class_bytes(alloc, k as u64)?;
     Ok((text, class.into_vec()))
 }
-
-#[cfg(test)]
-mod tests;

@@ -10,6 +10,9 @@ classes_of-requires-clause-many c = let a = c.in_ok-labels.ensures.0.many in cc
 pub classes_of-requires-clause-ascending : goal.classes_of-requires-clause-ascending
 classes_of-requires-clause-ascending c = subst (λ (l : List ℕ). Ascending l) (sym c.as_slice-2.ensures) c.in_ok-tests.ensures.ascending
 
+pub classes_of-requires-clause-low : goal.classes_of-requires-clause-low
+classes_of-requires-clause-low c = let low = (rw c.as_slice.ensures at c.in_ok-labels.ensures.0).low in rw (c.as_slice-2.ensures, c.deref.ensures.value) low
+
 pub invariant_of-result : goal.invariant_of-result
 invariant_of-result c =
     let chains = chains_of_set c.args.g.now c.args.set.now c.in_ok-tests.tests c.as_slice.result.now c.as_slice-2.result.now c.in_ok-labels.labels.items c.deref.result.now c.in_ok-lists.lists c.goes_up.ensures c.in_ok-tests.ensures c.as_slice.ensures c.as_slice-2.ensures c.deref.ensures.value c.in_ok-labels.ensures.0 c.in_ok-labels.ensures.1 c.in_ok-lists.ensures in
