@@ -179,7 +179,7 @@ fn push_place(out: &mut Text, class: &Units, method: u32, pc: u32) -> Result<(),
 fn push_rule(out: &mut Text, class: &Units, method: u32, pc: u32, rule: u32) -> Result<(), NoMemory>
     ensures { OnOk result
         (out.new ≡ out.old ++ (name_of class.now
-            ++ (32 ∷ (two method pc ++ (codes " rule " ++ decimal rule))))) }
+        ++ (32 ∷ (two method pc ++ (codes " rule " ++ decimal rule))))) }
 {
     push_place(out, class, method, pc)?;
     push_one(out, b" rule ", rule)
@@ -198,7 +198,7 @@ fn push_no_frame(out: &mut Text, class: &Units, method: u32, pc: u32) -> Result<
 fn push_unsupported(out: &mut Text, class: &Units, member: &Units) -> Result<(), NoMemory>
     ensures { OnOk result
         (out.new ≡ out.old ++ (name_of class.now
-            ++ (32 ∷ (name_of member.now ++ codes " unsupported")))) }
+        ++ (32 ∷ (name_of member.now ++ codes " unsupported")))) }
 {
     push_name(out, class.as_slice())?;
     push_named(out, b" ", member)?;

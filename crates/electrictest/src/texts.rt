@@ -22,7 +22,7 @@ fn push_hash(out: &mut Text, hash: &[u8; 32]) -> Result<(), NoMemory>
 fn push_foreign(out: &mut Text, kept: &[u8; 32], found: &[u8; 32]) -> Result<(), NoMemory>
     ensures { OnOk result (out.new
         ≡ out.old ++ (codes "record-foreign "
-            ++ (encode_lower kept.now ++ (32 ∷ encode_lower found.now)))) }
+        ++ (encode_lower kept.now ++ (32 ∷ encode_lower found.now)))) }
 {
     out.extend_from_slice(b"record-foreign ")?;
     push_hash(out, kept)?;
