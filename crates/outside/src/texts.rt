@@ -4,6 +4,7 @@ ghost use Rattle.std.specs.Prelude.{◌≡◌, ◌≢◌, ◌<◌, ◌≤◌, �
 ghost use Rattle.outside.specs.{Counts.Rose, Sink.appended, Sink.lowered, Sink.HasRoom, Sink.TookPrefix};
 
 use crate::{Sink, SinkFailed};
+use memchr::memchr;
 
 /// Offers a text to a sink line by line: each line with its line feed is one piece, and where less was taken the rest
 /// of the piece is offered again. An error comes only where the sink's count of faults rose in this call; the sink then
@@ -40,7 +41,7 @@ fn line_len(text: &[u8]) -> usize
     ensures ended { result < length text.now → slice_index text.now (result - 1) ≡ 10 }
     ensures first { (k : ℕ) → k + 1 < result → slice_index text.now k ≢ 10 }
 {
-    match text.iter().position(|&byte| byte == b'\n') {
+    match memchr(b'\n', text) {
         Some(at) => at + 1,
         None => text.len(),
     }

@@ -6,10 +6,14 @@ use Rattle.order_law.specs.{declared.edges.Edge.Edge, Conflicts.Member, Conflict
 abbrev pub at : List ℕ → ℕ → ℕ
 at l i = get_or l i 0
 
+-- no place of a list of tests has a later one as its label
+abbrev pub NameNoLater : List ℕ → List ℕ → Type 0
+NameNoLater tests labels = (i : ℕ) → i < length tests → at labels i ≤ i
+
 -- A label for each place of a list of tests: a place with that label itself. Tests with one label are joined.
 pub record AreLabels (R : List Edge) (tests labels : List ℕ) : Type 0 where
   pub many : length labels ≡ length tests
-  pub low : (i : ℕ) → i < length tests → at labels i ≤ i
+  pub low : NameNoLater tests labels
   pub rooted : (i : ℕ) → i < length tests → at labels (at labels i) ≡ at labels i
   pub sound : (i j : ℕ) → i < length tests → j < length tests → at labels i ≡ at labels j → Joined R (λ t. Member t tests) (at tests i) (at tests j)
 

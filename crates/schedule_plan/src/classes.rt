@@ -1,8 +1,8 @@
 //! The lists of the tests with one label.
 
-ghost use Rattle.std.specs.Prelude.{◌≡◌, ℕ, ◌+◌, ◌<◌, ◌≤◌, [], ◌∷◌, ◌++◌, cond, length, IfOk, OnOk};
+ghost use Rattle.std.specs.Prelude.{◌≡◌, ◌+◌, ◌<◌, [], ◌∷◌, ◌++◌, cond, length, IfOk, OnOk};
 ghost use Rattle.order_law.specs.Plan.{Ascending};
-ghost use Rattle.schedule_plan.specs.Grouping.{at, IsClassOf, AreClasses};
+ghost use Rattle.schedule_plan.specs.Grouping.{NameNoLater, IsClassOf, AreClasses};
 
 use et_base::{Items, NoMemory};
 use std::alloc::Global;
@@ -15,7 +15,7 @@ pub fn classes_of(
 ) -> Result<Items<Items<u32>>, NoMemory>
     requires many { length labels.now ≡ length tests.now }
     requires ascending { Ascending tests.now }
-    requires low { (i : ℕ) → i < length tests.now → at labels.now i ≤ i }
+    requires low { NameNoLater tests.now labels.now }
     ensures { IfOk result (λ lists. AreClasses tests.now labels.now (length tests.now) lists) }
 {
     let mut lists = Items::new(alloc);
@@ -36,7 +36,7 @@ fn push_class(
     requires within { root < length tests.now }
     requires many { length labels.now ≡ length tests.now }
     requires ascending { Ascending tests.now }
-    requires low { (i : ℕ) → i < length tests.now → at labels.now i ≤ i }
+    requires low { NameNoLater tests.now labels.now }
     requires before { AreClasses tests.now labels.now root lists.old }
     ensures { OnOk result (AreClasses tests.now labels.now (root + 1) lists.new) }
 {
@@ -57,7 +57,7 @@ fn class_of(
     requires within { label < length tests.now }
     requires many { length labels.now ≡ length tests.now }
     requires ascending { Ascending tests.now }
-    requires low { (i : ℕ) → i < length tests.now → at labels.now i ≤ i }
+    requires low { NameNoLater tests.now labels.now }
     ensures { IfOk result (λ list. IsClassOf tests.now labels.now label (length tests.now) list) }
 {
     let mut list = Items::new(alloc);

@@ -69,3 +69,9 @@ above_first y (z ∷ l) h a u m = let x : y < z = h (omega arith) in elim m [ in
 pub ascending_by_steps : (l : List ℕ) → ((k : ℕ) → suc k < length l → get_or l k 0 < get_or l (suc k) 0) → Ascending l
 ascending_by_steps [] s = tt
 ascending_by_steps (y ∷ l) s = let rest = ascending_by_steps l (λ k h. s (suc k) (omega arith)) in (above_first y l (λ h. s 0 (omega arith)) rest, rest)
+
+pub steps_rise : (l : List ℕ) → Ascending l → (k : ℕ) → suc k < length l → get_or l k 0 < get_or l (suc k) 0
+steps_rise [] a k h = absurd (omega (arith, h))
+steps_rise (y ∷ []) a k h = absurd (omega (arith, h))
+steps_rise (y ∷ (z ∷ l)) a zero h = a.0 z (inl refl)
+steps_rise (y ∷ (z ∷ l)) a (suc k) h = steps_rise (z ∷ l) a.1 k (omega arith)

@@ -13,6 +13,7 @@ use jvm_model::{NULL_POINTER_EXCEPTION, Next, Value};
 use vm_frames::FrameStack;
 
 /// Puts a constant on top (`aconst_null`, `iconst_<i>`, `lconst_<l>`, `bipush`, `sipush`, `ldc`, `ldc2_w`).
+#[inline(always)]
 pub fn constant(stack: &mut FrameStack, v: Value)
     requires { HasRoom 1 stack.old }
     ensures { GoesOn (form.Const v) stack.old stack.new }
@@ -67,16 +68,13 @@ pub fn dup(stack: &mut FrameStack)
 }
 
 /// Puts the top operand below the one under it as well (`dup_x1`).
+#[inline(always)]
 pub fn dup_x1(stack: &mut FrameStack)
     requires row { HasRow form.DupX1 stack.old }
     requires room { HasRoom 1 stack.old }
     ensures { GoesOn form.DupX1 stack.old stack.new }
 {
-    let a = stack.pop_value();
-    let b = stack.pop_value();
-    stack.push_value(a);
-    stack.push_value(b);
-    stack.push_value(a);
+    stack.dup_x1();
 }
 
 /// Puts the top operand below the long under it as well, or below the two operands under it (`dup_x2`).
@@ -91,21 +89,18 @@ pub fn dup_x2(stack: &mut FrameStack)
 }
 
 /// Puts the long on top there once more, or the two top operands (`dup2`).
+#[inline(always)]
 pub fn dup2(stack: &mut FrameStack)
     requires row { HasRow form.Dup2 stack.old }
     requires room { HasRoom 2 stack.old }
     ensures { GoesOn form.Dup2 stack.old stack.new }
 {
-    let a = stack.pop_value();
-    if is_long(a) {
-        stack.push_value(a);
+    if stack.is_long(0) {
+        stack.dup();
     } else {
-        let b = stack.pop_value();
-        stack.push_value(b);
-        stack.push_value(a);
-        stack.push_value(b);
+        stack.push_operand(1);
+        stack.push_operand(1);
     }
-    stack.push_value(a);
 }
 
 /// Puts the long on top below the operand under it as well, or the two top operands (`dup2_x1`).

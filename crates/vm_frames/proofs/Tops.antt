@@ -4,7 +4,7 @@ use Rattle.std.proofs.lemmas.List.{take-set-le}
 use Rattle.jvm_model.specs.declared.values.{Value.Value, Value.TheVariants.Null}
 use Rattle.jvm_model.specs.declared.state.{EntryKind.EntryKind, EntryKind.TheVariants.Absent, EntryKind.TheVariants.InMethod, EntryKind.TheVariants.InClass}
 use Rattle.jvm_model.specs.{Entries.Entries, Entries.with_stack, RowsMoves.with_local}
-use Rattle.vm_frames.specs.{declared.extent.Extent.Extent, Stack.operand_limit, Stack.HasRoom}
+use Rattle.vm_frames.specs.{declared.extent.Extent.Extent, Stack.operand_limit, Stack.dup_below, Stack.HasRoom}
 use Rattle.vm_frames.specs.Extents.{downwards, upwards, entry_of, entries_at, IsStanding}
 use Rattle.vm_frames.proofs.Lower.{downwards_same, upwards_same, below_same}
 
@@ -149,3 +149,73 @@ pub limit_most : (k : EntryKind) → operand_limit k ≤ 65535
 limit_most Absent = omega arith
 limit_most InMethod = omega arith
 limit_most (InClass b) = omega arith
+
+-- the top operand is put below the one under it as well, by three copies
+module _ (xs : List Value) (t : ℕ) where
+  abbrev pub raised : List Value
+  raised = set xs t (get_or xs (t - 1) Null)
+
+  abbrev pub shifted : List Value
+  shifted = set raised (t - 1) (get_or raised (t - 2) Null)
+
+  abbrev pub put_below : List Value
+  put_below = set shifted (t - 2) (get_or shifted t Null)
+
+  module _ (two : 1 < t) (h : t < length xs) where
+    raised_top : get_or shifted t Null ≡ get_or xs (t - 1) Null
+    raised_top =
+        let apart : t ≢ t - 1 = omega arith in
+        get_or-set_other raised (t - 1) t (get_or raised (t - 2) Null) Null apart ∙ get_or-set_same xs t (get_or xs (t - 1) Null) Null h
+
+    first_is : get_or put_below t Null ≡ get_or xs (t - 1) Null
+    first_is = let apart : t ≢ t - 2 = omega arith in get_or-set_other shifted (t - 2) t (get_or shifted t Null) Null apart ∙ raised_top
+
+    second_is : get_or put_below (t - 1) Null ≡ get_or xs (t - 2) Null
+    second_is =
+        let apart : t - 1 ≢ t - 2 = omega arith in
+        let other : t - 2 ≢ t = omega arith in
+        let many : length raised ≡ length xs = length-set xs t (get_or xs (t - 1) Null) in
+        get_or-set_other shifted (t - 2) (t - 1) (get_or shifted t Null) Null apart
+        ∙ get_or-set_same raised (t - 1) (get_or raised (t - 2) Null) Null (omega arith)
+        ∙ get_or-set_other xs t (t - 2) (get_or xs (t - 1) Null) Null other
+
+    third_is : get_or put_below (t - 2) Null ≡ get_or xs (t - 1) Null
+    third_is =
+        let many : length raised ≡ length xs = length-set xs t (get_or xs (t - 1) Null) in
+        let same : length shifted ≡ length raised = length-set raised (t - 1) (get_or raised (t - 2) Null) in
+        get_or-set_same shifted (t - 2) (get_or shifted t Null) Null (omega arith) ∙ raised_top
+
+    pub put_below_take : (b : ℕ) → b ≤ t - 2 → take b xs ≡ take b put_below
+    put_below_take b k =
+        take_set xs b t (get_or xs (t - 1) Null) (omega arith) ∙ take_set raised b (t - 1) (get_or raised (t - 2) Null) (omega arith)
+        ∙ take_set shifted b (t - 2) (get_or shifted t Null) k
+
+    three_more : (ys : List Value) (f : ℕ) → f ≤ t - 2 → downwards ys (t + 1) (t + 1 - f) ≡ get_or ys t Null ∷ get_or ys (t - 1) Null ∷ get_or ys (t - 2) Null ∷ downwards ys (t - 2) (t - 2 - f)
+    three_more ys f k =
+        let a : t + 1 ≡ suc t = omega arith in
+        let b : suc (t - 1) ≡ t = omega arith in
+        let c : suc (t - 2) ≡ t - 1 = omega arith in
+        let one = downwards_more ys f t (omega arith) in
+        let next = rw b at (downwards_more ys f (t - 1) (omega arith)) in
+        let last = rw c at (downwards_more ys f (t - 2) k) in
+        rw (a, one, next, last) refl
+
+pub entries-dup_x1 : (xs : List Value) (e : Extent) (saved : List Extent) (n : ℕ) → IsStanding n e saved → e.top < length xs → 1 < length (downwards xs e.top (e.top - e.first))
+    → entries_at (put_below xs e.top) (record e { top = e.top + 1 }) saved ≡ with_stack (entries_at xs e saved) (dup_below (downwards xs e.top (e.top - e.first)))
+entries-dup_x1 xs e saved n w h two =
+    let t = e.top in
+    let ys = put_below xs t in
+    let many = length_downwards xs t (t - e.first) (omega arith) in
+    let low : e.first ≤ t - 2 = omega (arith, w.here) in
+    let more : 1 < t = omega arith in
+    let b : suc (t - 1) ≡ t = omega arith in
+    let c : suc (t - 2) ≡ t - 1 = omega arith in
+    let next = rw b at (downwards_more xs e.first (t - 1) (omega arith)) in
+    let last = rw c at (downwards_more xs e.first (t - 2) low) in
+    let rest : downwards ys (t - 2) (t - 2 - e.first) ≡ downwards xs (t - 2) (t - 2 - e.first) = sym (downwards_same xs ys (t - 2) (t - 2) (t - 2 - e.first) (put_below_take xs t more h (t - 2) (omega arith)) (omega arith)) in
+    let old : dup_below (downwards xs t (t - e.first)) ≡ get_or xs (t - 1) Null ∷ get_or xs (t - 2) Null ∷ get_or xs (t - 1) Null ∷ downwards xs (t - 2) (t - 2 - e.first) = rw (next, last) refl in
+    let stack : downwards ys (t + 1) (t + 1 - e.first) ≡ dup_below (downwards xs t (t - e.first)) =
+    three_more xs t more h ys e.first low ∙ rw (first_is xs t more h, second_is xs t more h, third_is xs t more h, rest) refl ∙ sym old in
+    let locals : upwards ys e.base (e.first - e.base) ≡ upwards xs e.base (e.first - e.base) = sym (upwards_same xs ys e.first e.base (e.first - e.base) (put_below_take xs t more h e.first low) (omega (arith, w.here))) in
+    let below : map (entry_of ys) (reverse saved) ≡ map (entry_of xs) (reverse saved) = sym (below_same xs ys n e.base (reverse saved) (put_below_take xs t more h e.base (omega (arith, w.here))) w.below) in
+    rw (stack, locals, below) refl

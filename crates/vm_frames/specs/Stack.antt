@@ -38,3 +38,7 @@ HasLongOnTop (v ∷ vs) = IsLong v
 -- the top operand goes into a local
 abbrev pub stored_local : Entries → ℕ → Entries
 stored_local s i = with_stack (with_local s i (get_or s.top.stack 0 Null)) (drop 1 s.top.stack)
+
+-- the top operand stands below the one under it as well
+abbrev pub dup_below : List Value → List Value
+dup_below vs = get_or vs 0 Null ∷ get_or vs 1 Null ∷ get_or vs 0 Null ∷ drop 2 vs

@@ -5,7 +5,7 @@ ghost use Rattle.std.specs.Option.{option_to_list};
 ghost use Rattle.jvm_model.specs.declared.values.Value.TheVariants.{Int, Long, Null};
 ghost use Rattle.jvm_model.specs.Entries.{no_entries, with_stack, with_place, with_entry, class_entry, popped_entry, is_full};
 ghost use Rattle.jvm_model.specs.{Initialise.with_entered, RowsMoves.with_local, RowsMoves.is_long};
-ghost use Rattle.vm_frames.specs.Stack.{HasRoom, HasIntOnTop, HasLongOnTop, frame_with, called_with, stored_local};
+ghost use Rattle.vm_frames.specs.Stack.{HasRoom, HasIntOnTop, HasLongOnTop, dup_below, frame_with, called_with, stored_local};
 
 use crate::extent::{Extent, save, take_saved};
 use crate::fault::PushFault;
@@ -380,6 +380,34 @@ impl FrameStack {
             ≡ with_stack self.old (get_or self.old.top.stack 0 Null ∷ self.old.top.stack) }
     {
         self.slots.copy(self.current.top - 1, self.current.top);
+        self.current.top += 1;
+    }
+
+    /// Puts the operand that is `k` operands below the top one on top.
+    #[tactic(auto, using(crate::proofs::Tops::tops))]
+    #[inline(always)]
+    pub fn push_operand(&mut self, k: u16)
+        requires operand { k < length self.old.top.stack }
+        requires room { HasRoom 1 self.old }
+        ensures { self.new
+            ≡ with_stack self.old (get_or self.old.top.stack k Null ∷ self.old.top.stack) }
+    {
+        self.slots
+            .copy(self.current.top - 1 - k as usize, self.current.top);
+        self.current.top += 1;
+    }
+
+    /// Puts the top operand below the one under it as well.
+    #[inline(always)]
+    pub fn dup_x1(&mut self)
+        requires operands { 1 < length self.old.top.stack }
+        requires room { HasRoom 1 self.old }
+        ensures { self.new ≡ with_stack self.old (dup_below self.old.top.stack) }
+    {
+        let top = self.current.top;
+        self.slots.copy(top - 1, top);
+        self.slots.copy(top - 2, top - 1);
+        self.slots.copy(top, top - 2);
         self.current.top += 1;
     }
 }

@@ -25,15 +25,15 @@ use et_base::NoMemory;
 use jvm_model::{Cell, EntryKind, Instr, Next, Op};
 use std::mem;
 use vm_arith::{
-    binary_ints, binary_longs, compare, convert, dup, if_ints, if_null, if_refs, if_zero, increase,
-    lookup_switch, neg_int, neg_long, pop, table_switch,
+    binary_ints, binary_longs, compare, convert, dup, dup_x1, dup2, if_ints, if_null, if_refs,
+    if_zero, increase, lookup_switch, neg_int, neg_long, pop, table_switch,
 };
 use vm_calls::{Selections, give_back, invoke_on_object, invoke_special, invoke_static};
 use vm_frames::FrameStack;
 use vm_mem::Memory;
 use vm_objects::{
-    array_length, array_load, array_store_number, get_field, get_static, new_object, put_field,
-    put_static,
+    array_length, array_load, array_store_number, check_cast, get_field, get_static, instance_of,
+    new_object, put_field, put_static,
 };
 use vm_tables::Tables;
 
@@ -111,6 +111,14 @@ fn hot_form<M: Memory>(
         }
         Instr::Dup => {
             dup(stack);
+            Ok(fall_through(stack, cursor))
+        }
+        Instr::DupX1 => {
+            dup_x1(stack);
+            Ok(fall_through(stack, cursor))
+        }
+        Instr::Dup2 => {
+            dup2(stack);
             Ok(fall_through(stack, cursor))
         }
         Instr::Pop => {
@@ -229,6 +237,20 @@ fn hot_form<M: Memory>(
             let next = place_after(cursor);
             let before = *left;
             let answer = array_store_number(stack, memory, next, left)?;
+            Ok(classify_flow(answer, stack, method, next, before, left))
+        }
+        Instr::CheckCast { kind } => {
+            let method = stack.number();
+            let next = place_after(cursor);
+            let before = *left;
+            let answer = check_cast(stack, memory, tables, *kind, next, left)?;
+            Ok(classify_flow(answer, stack, method, next, before, left))
+        }
+        Instr::InstanceOf { kind } => {
+            let method = stack.number();
+            let next = place_after(cursor);
+            let before = *left;
+            let answer = instance_of(stack, memory, tables, *kind, next, left)?;
             Ok(classify_flow(answer, stack, method, next, before, left))
         }
         Instr::GetStatic { field } => {

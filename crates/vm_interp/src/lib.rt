@@ -8,7 +8,7 @@
 //!   left.
 //!
 //! LLVM puts `hot_form` into the loop since one place alone calls it and its optimised body costs
-//! less than 15,250; it stands at some 13,800, so weigh each arm that is added. What its arms hand
+//! less than 15,250; it stands at some 14,900, so weigh each arm that is added. What its arms hand
 //! the stack to is `inline(always)`: a single such call that LLVM leaves for later adds 2,900, as
 //! all of the stack then counts as memory. The stack is a local of the loop: what is made apart is
 //! `#[cold]` and works on a moved copy, as an address that is handed on keeps all of it in memory:

@@ -1,6 +1,6 @@
 use Rattle.jvm_model.specs.declared.instr.Instr.TheVariants as form
 use Rattle.jvm_model.specs.declared.instr.Cell.TheVariants as cell
-use Rattle.vm_objects.specs.Forms.{field_row, array_row, static_row, create_row}
+use Rattle.vm_objects.specs.Forms.{field_row, array_row, cast_row, static_row, create_row}
 use Rattle.vm_interp.proofs.Found.{row_falls}
 use Rattle.vm_interp.proofs.hot.hot_form.Goals as goal
 
@@ -32,6 +32,18 @@ pub classify_flow-requires-in-ArrayStore-Int : goal.classify_flow-requires-in-Ar
 classify_flow-requires-in-ArrayStore-Int g c = record {
   counted = λ e.
       (row_falls g.M.Memory.program g.M.Memory.world (array_row (form.ArrayStore cell.Int)) c.args.memory.now c.array_store_number.new.memory c.args.stack.now c.array_store_number.new.stack c.args.left.now c.array_store_number.new.left c.in_ok-answer-in-ArrayStore-Int.answer e c.in_ok-answer-in-ArrayStore-Int.ensures.made.1.0);
+}
+
+pub classify_flow-requires-in-CheckCast : goal.classify_flow-requires-in-CheckCast
+classify_flow-requires-in-CheckCast g c = record {
+  counted = λ e.
+      (row_falls g.M.Memory.program g.M.Memory.world (cast_row (form.CheckCast c.in-CheckCast.kind)) c.args.memory.now c.check_cast.new.memory c.args.stack.now c.check_cast.new.stack c.args.left.now c.check_cast.new.left c.in_ok-answer-in-CheckCast.answer e c.in_ok-answer-in-CheckCast.ensures.made.1.0);
+}
+
+pub classify_flow-requires-in-InstanceOf : goal.classify_flow-requires-in-InstanceOf
+classify_flow-requires-in-InstanceOf g c = record {
+  counted = λ e.
+      (row_falls g.M.Memory.program g.M.Memory.world (cast_row (form.InstanceOf c.in-InstanceOf.kind)) c.args.memory.now c.instance_of.new.memory c.args.stack.now c.instance_of.new.stack c.args.left.now c.instance_of.new.left c.in_ok-answer-in-InstanceOf.answer e c.in_ok-answer-in-InstanceOf.ensures.made.1.0);
 }
 
 pub classify_flow-requires-in-GetStatic : goal.classify_flow-requires-in-GetStatic
