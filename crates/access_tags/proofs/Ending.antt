@@ -262,7 +262,7 @@ name_notes m g part name k write i r s = let x : Touch = record { write = write;
   room = r;
   tags = λ T t ts a. s (numbering m) T t ts x (placed_name (numbering m) part name k i) refl (sym i.here) a;
   met = λ ts kept a. meet_ungiven m.test ts x m.discovery_tree.met a refl;
-  heads = λ kinds T ts q a. heads_quiet kinds T m.test ts m.heads.classes (x ∷ []) m.heads.marks (λ o c. quiet part o c) a;
+  heads = λ kinds T U t ts s q a. heads_quiet kinds T m.test ts m.heads.classes (x ∷ []) m.heads.marks (λ o c. quiet part o c) a;
   size = same_size part write (size m.memory.world);
   classes = refl;
 }

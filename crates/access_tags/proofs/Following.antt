@@ -1,5 +1,6 @@
 -- What a memory with tags follows after one more touch, in another world, and after one more object.
-use Rattle.std.proofs.Common.{◌≡◌, ℕ, suc, ◌+◌, ◌-◌, ◌<◌, Bool, true, false, cond, List, [], ◌∷◌, ◌++◌, length, get_or, set, max, refl, sym, ◌∙◌, ap, subst, arith, inl, inr, nat_eq, Option, None, Some, slice_get, length-append}
+use Rattle.std.proofs.Common.{◌≡◌, ℕ, suc, ◌+◌, ◌-◌, ◌<◌, Bool, true, false, cond, List, [], ◌∷◌, ◌++◌, length, get_or, map, set, max, refl, sym, ◌∙◌, ap, subst, arith, inl, inr, nat_eq, Option, None, Some, slice_get, length-append}
+use Rattle.std.specs.List.{list_any}
 use Rattle.std.proofs.Math.Seq.{get_or-append_seam}
 use Rattle.std.proofs.lemmas.Bool.{cases_eq, cases_lt}
 use Rattle.std.proofs.lemmas.List.{length-map, get_or_append_left, get_or-set_same, get_or-set_other}
@@ -11,23 +12,25 @@ use Rattle.jvm_model.specs.declared.program.Program.{Program}
 use Rattle.jvm_model.specs.Access.{elems_made, fields_made, made, text_made, write_of}
 use Rattle.jvm_model.specs.Classes.{blank, elems_of, fields_of, member}
 use Rattle.jvm_model.specs.View.{Exists, keys}
-use Rattle.jvm_model.specs.World.{World, Object, Content, at, put, put_at, keep, size, object_at, no_object, make_object}
+use Rattle.jvm_model.specs.World.{World, Object, Content, at, put, put_at, keep, same, size, object_at, no_object, make_object}
 use Rattle.jvm_model.proofs.{Locations.size_put, Ranges.length_put_at}
 use Rattle.order_law.specs.Histories.{Touches}
 use Rattle.vm_mem.specs.{Kept.Kept, Trace.Trace, Trace.Extends}
 use Rattle.access_tags.specs.declared.ended.Ended.{Ended}
 use Rattle.access_tags.specs.declared.heads.Heads.{Heads}
-use Rattle.access_tags.specs.declared.conflict.LocationKey.{LocationKey}
+use Rattle.access_tags.specs.declared.conflict.{LocationKey.LocationKey, Touched.Touched}
+use Rattle.access_tags.specs.declared.conflict.LocationKey.TheVariants as spot
 use Rattle.access_tags.specs.declared.discovery_tree.DiscoveryTree.{DiscoveryTree}
 use Rattle.access_tags.specs.declared.memory.TaggedMemory.{TaggedMemory}
 use Rattle.access_tags.specs.declared.numbers.Numbers.{Numbers}
 use Rattle.access_tags.specs.declared.tags.Tags.{Tags}
 use Rattle.access_tags.specs.Followed.{AreKinds, Follows, HasNoted, HaveNoted, HaveSameRoom, IsEnded, IsLaid, IsNumbered, numbering, numbering_in, keeps_walks}
-use Rattle.access_tags.specs.Numbering.{Numbering, is_name, located, with_cells}
+use Rattle.access_tags.specs.Numbering.{Numbering, IsPlaced, is_name, located, tag_at, with_cells}
 use Rattle.access_tags.specs.Ran.{size_after, size_in, touched_by, with_head}
-use Rattle.access_tags.specs.{HeadMarks.IsKindAt, HeadsStand.HeadsStand, HasDiscovered.HasDiscovered, Shelf.count, Stands.Stands}
-use Rattle.access_tags.proofs.{FirstReads.meet_made, HeadNotes.heads_made, Spread.length-parts}
-use Rattle.access_tags.specs.Worlds.{cells_of, bases_of, parts, width}
+use Rattle.access_tags.specs.{HeadMarks.IsKindAt, HeadsStand.HeadsStand, HasDiscovered.HasDiscovered, AccessLogs.touched_in, Shelf.count, Shelf.tag_in, Stands.Stands, Tag.covers}
+use Rattle.access_tags.proofs.{FirstReads.meet_made, FirstReads.meet_ungiven, HeadNotes.heads_again, HeadNotes.heads_made, PartNotes.placed, Spread.length-parts}
+use Rattle.access_tags.proofs.Stood.{covered_stands, covered_touched}
+use Rattle.access_tags.specs.Worlds.{cells_of, bases_of, number_in, parts, width}
 use Rattle.access_tags.proofs.Changes.{keys_kept, made_bases, made_cells, put_bases, put_cells}
 
 -- how many objects there are after touches
@@ -163,7 +166,7 @@ pub record NotesOne {W : ℕ} (m : TaggedMemory W) (g : Tags) (a : DiscoveryTree
   pub room : HaveSameRoom m.tags g
   pub tags : HaveNoted (numbering m) m.tags g (x ∷ [])
   pub met : (ts : List Touch) → keeps_walks W ≡ true → HasDiscovered m.test ts m.discovery_tree → HasDiscovered m.test (ts ++ x ∷ []) a
-  pub heads : (kinds : ℕ → ℕ → Kind) (T : Touches) (ts : List Touch) → AreKinds kinds m.memory.world → HeadsStand kinds T m.test ts m.heads → HeadsStand kinds T m.test (ts ++ x ∷ []) b
+  pub heads : (kinds : ℕ → ℕ → Kind) (T U : Touches) (t : ℕ) (ts : List Touch) → Stands (numbering m) U t ts m.tags → AreKinds kinds m.memory.world → HeadsStand kinds T m.test ts m.heads → HeadsStand kinds T m.test (ts ++ x ∷ []) b
   pub size : size_after (size m.memory.world) (x ∷ []) ≡ size m.memory.world
   pub classes : b.classes ≡ m.heads.classes
 
@@ -180,11 +183,28 @@ noted m g a b x h ts n f = record {
     size = sym n.size ∙ (ap (λ (j : ℕ). size_after j (x ∷ [])) t.size ∙ sym (size_append (size_in T (h.test - 1)) ts (x ∷ [])));
     met = λ kept. subst (λ (u : ℕ). HasDiscovered u (ts ++ x ∷ []) a) f.test (n.met ts kept (subst (λ (u : ℕ). HasDiscovered u ts m.discovery_tree) (sym f.test) (t.met kept)));
     heads = λ kinds q. subst (λ (u : ℕ). HeadsStand kinds (touched_by T) u (ts ++ x ∷ []) b) f.test
-        (n.heads kinds (touched_by T) ts q (subst (λ (u : ℕ). HeadsStand kinds (touched_by T) u ts m.heads) (sym f.test) (t.heads kinds q)));
+        (n.heads kinds (touched_by T) T (h.test - 1) ts t.stands q (subst (λ (u : ℕ). HeadsStand kinds (touched_by T) u ts m.heads) (sym f.test) (t.heads kinds q)));
     each = t.each;
     ended = t.ended;
   };
 }
+
+-- one more touch of a head that is known to be noted
+pub head_again : {W : ℕ} (m : TaggedMemory W) (o at : ℕ) (d : Option Kind) → ((w : World) → IsNumbered w m.numbers → is_name (spot.Head o) ≡ false → Exists w (place.Head o) → at ≡ number_in w (place.Head o)) →
+    covers false (tag_at (tag_in m.tags.cells) (tag_in m.tags.named) (record { spot = spot.Head o; at = at })).mark ≡ true → HasNoted m m (spot.Head o) false None d
+head_again m o at d given k x i e w l v a z h ts f =
+    let n = numbering m in
+    let y : Touched = record { spot = spot.Head o; at = at } in
+    let p : IsPlaced n y = placed m.memory.world m.names (spot.Head o) at i e (given m.memory.world f.numbered i e) in
+    noted m m.tags m.discovery_tree m.heads x h ts (record {
+      room = record { cells = refl; named = refl };
+      tags = λ T t us s. covered_stands n T t us (tag_in m.tags.cells) (tag_in m.tags.named) (touched_in m.tags.touched) s y x false w p l k;
+      met = λ us kept j. meet_ungiven m.test us x m.discovery_tree.met j v;
+      heads = λ kinds T U t us s q. heads_again kinds T m.test us m.heads.classes x m.heads.marks
+          (subst (λ (L : Location). list_any (same L) (map (λ (x : Touch). x.location) us) ≡ true) (sym l) (covered_touched n U t us (tag_in m.tags.cells) (tag_in m.tags.named) (touched_in m.tags.touched) s y false p k));
+      size = z;
+      classes = refl;
+    }) f
 
 -- the kind that is told with a touch, where these are the kinds of all objects
 pub kind_at : (kinds : ℕ → ℕ → Kind) (w : World) (u : ℕ) (L : Location) (k : Option Kind) → AreKinds kinds w → Exists w L → IsKindAt (λ o. (at w (place.Head o)).kind) L k → IsKindAt (kinds u) L k

@@ -1,11 +1,12 @@
 -- The marks of heads after one more touch, after touches of no head, and when the next test begins.
-use Rattle.std.proofs.Common.{◌≡◌, ◌⊎◌, ◌+◌, ◌*◌, ◌<◌, ℕ, suc, Bool, true, false, ◌||◌, ◌&&◌, cond, List, [], ◌∷◌, ◌++◌, length, get_or, set, refl, sym, ◌∙◌, ap, subst, arith, nat_eq, nat_lt, inl, inr, Option, Some, None}
+use Rattle.std.proofs.Common.{◌≡◌, ◌⊎◌, ◌+◌, ◌*◌, ◌<◌, ℕ, suc, Bool, true, false, ◌||◌, ◌&&◌, cond, List, [], ◌∷◌, ◌++◌, length, map, get_or, set, refl, sym, ◌∙◌, ap, subst, arith, nat_eq, nat_lt, inl, inr, Option, Some, None}
 use Rattle.std.proofs.lemmas.Bool.{cases_Bool, cases_eq, cases_order, eqb-true, eq-eqb, ne_eqb, lt-ltb, le-ltb}
 use Rattle.std.proofs.lemmas.{List.append_assoc, List.get_or-set_other, Grind.get_or-set_at, Nat.mul-add-lt}
 use Rattle.std.proofs.{lemmas.List.Folds.list_any-append, Math.Bool.or-false, Math.Bool.or-true, Math.Nat.mul_comm}
-use Rattle.jvm_model.specs.declared.values.{Kind.Kind, Value.Value, Touch.Touch}
+use Rattle.jvm_model.specs.declared.values.{Kind.Kind, Location.Location, Value.Value, Touch.Touch}
 use Rattle.jvm_model.specs.declared.values.Location.TheVariants as place
-use Rattle.jvm_model.specs.World.{Object}
+use Rattle.jvm_model.specs.World.{Object, same}
+use Rattle.jvm_model.proofs.Locations.{same_true}
 use Rattle.jvm_model.specs.Access.{write_of, made, fields_made, elems_made, text_made}
 use Rattle.order_law.specs.{Histories.Touches, Reach.inner_class}
 use Rattle.access_tags.specs.HeadMarks.{is_class, is_head_of, touches_class, touches_so_far, is_marked, AreMarked}
@@ -20,6 +21,19 @@ so_far_next T t ts u e = elim (cases_order u t) [
     rest : (u : ℕ) → (u ≡ suc t) ⊎ (u ≡ suc t → ⊥) → t < u → cond (nat_eq u (suc t)) [] (cond (nat_lt u (suc t)) (T u) []) ≡ []
     rest u (inl q) h = rw (eq-eqb u (suc t) q) refl
     rest u (inr q) h = rw (ne_eqb u (suc t) q) (rw (le-ltb u (suc t) (omega arith)) refl)
+
+-- what holds already is left by one more that asks for it
+again : (m a b : Bool) → ((a ≡ true) → (b ≡ true) → m ≡ true) → m ≡ (m || (a && b))
+again m true true f = rw (f refl refl) refl
+again m _ _ f = sym (or-false m)
+
+-- a head that was touched
+touched_before : (k : ℕ → Kind) (c : ℕ) (L : Location) (ts : List Touch) → list_any (same L) (map (λ (x : Touch). x.location) ts) ≡ true → is_head_of k c L ≡ true → touches_class k c ts ≡ true
+touched_before k c L [] a e = absurd (cc)
+touched_before k c L (y ∷ ts) a e = elim (cases_Bool (same L y.location)) [
+  | inl q ↦ ap (λ (M : Location). is_head_of k c M || touches_class k c ts) (sym (same_true L y.location q)) ∙ rw e refl
+  | inr q ↦ rw (touched_before k c L ts (sym (ap (λ (b : Bool). b || list_any (same L) (map (λ (x : Touch). x.location) ts)) q) ∙ a) e) (or-true (is_head_of k c y.location))
+]
 
 module _ (kinds : ℕ → ℕ → Kind) (T : Touches) (t : ℕ) (ts : List Touch) (n : ℕ) where
   pub heads_next : (ms : List Bool) → T t ≡ ts → AreMarked kinds T t ts n ms → AreMarked kinds T (suc t) [] n ms
@@ -49,6 +63,13 @@ module _ (kinds : ℕ → ℕ → Kind) (T : Touches) (t : ℕ) (ts : List Touch
       here u (inl e) = rw e (or-false (is_head_of (kinds u) c x.location) ∙ (rw l (ap (λ (i : ℕ). is_class (inner_class (kinds i o)) c) (eqb-true u t e) ∙ ap (λ (z : Kind). is_class (inner_class z) c) k)))
       here u (inr e) = rw e refl
 
+  -- one more touch of a location that was touched
+  pub heads_again : (x : Touch) (ms : List Bool) → list_any (same x.location) (map (λ (x : Touch). x.location) ts) ≡ true → AreMarked kinds T t ts n ms → AreMarked kinds T t (ts ++ x ∷ []) n ms
+  heads_again x ms a m u c h =
+      let b = is_head_of (kinds u) c x.location in
+      m u c h ∙ (again (touches_class (kinds u) c (touches_so_far T t ts u)) (nat_eq u t) b (λ e k. rw e (touched_before (kinds u) c x.location ts a k))
+      ∙ sym (more_touches (x ∷ []) u c ∙ ap (λ (b : Bool). touches_class (kinds u) c (touches_so_far T t ts u) || (nat_eq u t && b)) (or-false b)))
+
 -- the places of two classes among the marks differ
 apart : (n u c t d : ℕ) → c < n → d < n → u * n + c ≡ t * n + d → (u ≡ t) × (c ≡ d)
 apart n u c t d h k e = elim (cases_order u t) [
@@ -73,11 +94,7 @@ one_marked n ms ns t d at p k same there u c h = elim (cases_eq (u * n + c) at) 
 
 -- a class that is marked already
 pub marked_again : (n : ℕ) (ms : List Bool) (t d : ℕ) → is_marked n ms t d ≡ true → (u c : ℕ) → is_marked n ms u c ≡ (is_marked n ms u c || (nat_eq u t && nat_eq d c))
-marked_again n ms t d e u c = again (nat_eq u t) (nat_eq d c) (λ a b. ap (λ (i : ℕ). is_marked n ms i c) (eqb-true u t a) ∙ (ap (λ (i : ℕ). is_marked n ms t i) (sym (eqb-true d c b)) ∙ e))
-  where
-    again : (a b : Bool) → ((a ≡ true) → (b ≡ true) → is_marked n ms u c ≡ true) → is_marked n ms u c ≡ (is_marked n ms u c || (a && b))
-    again true true f = rw (f refl refl) refl
-    again _ _ f = sym (or-false (is_marked n ms u c))
+marked_again n ms t d e u c = again (is_marked n ms u c) (nat_eq u t) (nat_eq d c) (λ a b. ap (λ (i : ℕ). is_marked n ms i c) (eqb-true u t a) ∙ (ap (λ (i : ℕ). is_marked n ms t i) (sym (eqb-true d c b)) ∙ e))
 
 -- classes that are looked at one after another
 pub class_more : (c d : ℕ) (m g a b e : Bool) → b ≡ (a || ((nat_lt c d && m) && g)) → (c ≡ d → m ≡ true) → e ≡ (b || (nat_eq c d && g)) → e ≡ (a || ((nat_lt c (d + 1) && m) && g))

@@ -89,6 +89,16 @@ module _ (n : Numbering) (T : Touches) (t : ℕ) (ts : List Touch) (c d : ℕ �
   covered_stands y x write w p e k = let a = covered_both (is_name y.spot) write c d y.at k in
       subst (λ (ys : List Touched). StandFor n T t (ts ++ x ∷ []) c d ys) (append-nil xs) (noted_stands y x write c d false w p e (sym (covered_new write (tag_at c d y).mark k)) a.0 a.1)
 
+  -- what such a touch is of was touched
+  pub covered_touched : (y : Touched) (write : Bool) → IsPlaced n y → covers write (tag_at c d y).mark ≡ true → list_any (same (located n.names y.spot)) (map (λ (x : Touch). x.location) ts) ≡ true
+  covered_touched y write p k = let M = located n.names y.spot in
+      any_touched ts M ∙ either (exposed ts M) (written ts M) (subst (λ (z : Mark). covers write z ≡ true) (ap (λ (z : Tag). z.mark) (tag_there n c d y p ∙ s.tags M)) k)
+    where
+      either : (e w : Bool) → (w || (e && not write)) ≡ true → (e || w) ≡ true
+      either true w q = refl
+      either false true q = refl
+      either false false q = q
+
   -- the end of the test
   pub apart : Apart same (locations n xs)
   apart = subst (λ (ls : List Location). Apart same ls) (sym s.touched) (first_apart (map (λ (x : Touch). x.location) ts))

@@ -50,6 +50,8 @@ pub struct TaggedMemory<const WALKS: bool> {
 
 impl<const WALKS: bool> TaggedMemory<WALKS> {
     ghost use Rattle.order_law.specs.declared.records.Reach.{Reach as Reached};
+    ghost use Rattle.jvm_model.specs.declared.values.Kind.{Kind as KindOf};
+    ghost use Rattle.access_tags.specs.declared.conflict.LocationKey.TheVariants as spots;
 
     /// The memory of a linked program before its first test, with no touches.
     pub fn opening(alloc: Global, p: &Program) -> Result<TaggedMemory<WALKS>, NoMemory>
@@ -138,6 +140,27 @@ impl<const WALKS: bool> TaggedMemory<WALKS> {
         discover(tree, WALKS, self.test, spot, write, gave)?;
         self.heads.note_touch(self.test, kind)?;
         Ok(())
+    }
+
+    /// Whether it is known that one more touch of an object's head by the running test leaves all that is kept as it is.
+    #[inline(always)]
+    fn has_noted_head(&self, object: u64) -> bool
+        ensures { result ≡ true → (kind : KindOf) → HasNoted self.now self.now (spots.Head object) false None (Some kind) }
+    {
+        let head = LocationKey::Head { object };
+        match self.numbers.number(head) {
+            Some(at) => self.tags.covers(head, at, false),
+            None => false,
+        }
+    }
+
+    /// Notes one more touch of the head of an object of a kind.
+    #[inline(never)]
+    fn note_head(&mut self, object: u64, kind: Kind) -> Result<(), NoMemory>
+        ensures memory { self.new.memory ≡ self.old.memory }
+        ensures told { OnOk result (HasNoted self.old self.new (spots.Head object) false None (Some kind)) }
+    {
+        self.note(LocationKey::Head { object }, false, None, Some(kind))
     }
 
     /// The number of a file or property among the names, of which it is then one. More than 2^32 names are refused as want
@@ -280,9 +303,13 @@ impl<const WALKS: bool> Memory for TaggedMemory<WALKS> {
         Ok(())
     }
 
+    #[inline(always)]
     fn head(&mut self, object: u64) -> Result<Head, NoMemory> {
         let head = self.memory.head(object)?;
-        self.note(LocationKey::Head { object }, false, None, Some(head.kind))?;
+        if self.has_noted_head(object) {
+            return Ok(head);
+        }
+        self.note_head(object, head.kind)?;
         Ok(head)
     }
 

@@ -104,7 +104,7 @@ impl Tags {
     /// Whether one more touch of a part by the running test is known to leave its tag as it is; of files and properties it
     /// isn't. Takes no memory.
     #[inline(always)]
-    fn covers(&self, spot: LocationKey, at: u64, write: bool) -> bool
+    pub fn covers(&self, spot: LocationKey, at: u64, write: bool) -> bool
         ensures { result ≡ true → covers write (tag_at (tag_in self.now.cells) (tag_in self.now.named) (record { spot = spot; at = at })).mark ≡ true }
     {
         match spot {

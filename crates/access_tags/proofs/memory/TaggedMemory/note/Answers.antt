@@ -11,7 +11,7 @@ returns-clause-told g c x i e w l v a z h ts f =
       room = c.in_ok-note_part.ensures.room;
       tags = c.in_ok-note_part.ensures.told m.memory.world m.names x f.numbered i e w l;
       met = λ us kept k. c.in_ok-discover.ensures us x kept w l v k;
-      heads = λ kinds T us q k. c.in_ok-note_touch.ensures.stands kinds T us x
+      heads = λ kinds T U t us s q k. c.in_ok-note_touch.ensures.stands kinds T us x
           (subst (λ (L : Location). IsKindAt (kinds m.test) L c.args.kind) (sym l) (kind_at kinds m.memory.world m.test (located [] c.args.spot) c.args.kind q e a)) k;
       size = z;
       classes = c.in_ok-note_touch.ensures.classes;
