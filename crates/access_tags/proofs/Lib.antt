@@ -32,3 +32,4 @@ pub mod Settling
 pub mod Finding
 pub mod NamesKept
 pub mod FoundAll
+pub mod Written

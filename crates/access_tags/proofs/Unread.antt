@@ -55,9 +55,14 @@ unread_alone c d field [] u = refl
 unread_alone c d field (x ∷ xs) u = rw (u 0 x (omega arith)) (unread_alone c d field xs (λ i w m. u (suc i) w (omega arith)))
 
 -- after a push that may be refused
-pub pushed_unread : {R E : Type 0} (r : Result R E) (c d : ℕ → Tag) (xs ys : List Touched) (x : Touched) → OnOk r (ys ≡ xs ++ x ∷ []) → OnErr r (ys ≡ xs) → AreUnread c d (xs ++ x ∷ []) → AreUnread c d xs → AreUnread c d ys
-pushed_unread (Ok z) c d xs ys x e f u w = subst (λ (zs : List Touched). AreUnread c d zs) (sym e) u
-pushed_unread (Err z) c d xs ys x e f u w = subst (λ (zs : List Touched). AreUnread c d zs) (sym f) w
+pub pushed : {R E : Type 0} (P : List Touched → Type 0) (r : Result R E) (xs ys zs : List Touched) → OnOk r (ys ≡ xs ++ zs) → OnErr r (ys ≡ xs) → P (xs ++ zs) → P xs → P ys
+pushed P (Ok z) xs ys zs e f u w = subst P (sym e) u
+pushed P (Err z) xs ys zs e f u w = subst P (sym f) w
+
+pub unread_left : (c d : ℕ → Tag) (xs ys : List Touched) → AreUnread c d (xs ++ ys) → AreUnread c d xs
+unread_left c d [] ys u k x l = absurd (omega (arith, l))
+unread_left c d (z ∷ xs) ys u zero x l = u 0 x (omega arith)
+unread_left c d (z ∷ xs) ys u (suc k) x l = unread_left c d xs ys (λ i w m. u (suc i) w (omega arith)) k x (omega arith)
 
 pub reads_nothing : (a b : Bool) → (a || not b) ≡ false → (a ≡ false) × (b ≡ true)
 reads_nothing false true e = (refl, refl)

@@ -25,3 +25,4 @@ pub mod Places
 pub mod Settled
 pub mod FoundIn
 pub mod AreNames
+pub mod Written

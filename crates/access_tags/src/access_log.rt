@@ -1,7 +1,7 @@
 //! What the running test touched, in the order of first touch.
 
 ghost use Rattle.std.specs.Prelude.{◌≡◌, ◌≤◌, ◌<◌, ◌++◌, ◌∷◌, [], length, get_or, true, false, OnOk, OnErr};
-ghost use Rattle.access_tags.specs.Intervals.{AreOrdered, parts};
+ghost use Rattle.access_tags.specs.Intervals.{AreOrdered, parts, parts_of};
 
 use crate::conflict::Touched;
 use crate::interval::Interval;
@@ -58,6 +58,16 @@ impl AccessLog {
         let Some(interval) = Interval::of(part) else {
             return Err(NoMemory {});
         };
+        self.intervals.push(interval)?;
+        Ok(())
+    }
+
+    /// The parts of one more interval. After a refusal the parts are as before.
+    pub fn push_interval(&mut self, interval: Interval) -> Result<(), NoMemory>
+        requires { interval.first ≤ interval.end }
+        ensures pushed { OnOk result (touched_in self.new ≡ touched_in self.old ++ parts_of interval) }
+        ensures kept { OnErr result (touched_in self.new ≡ touched_in self.old) }
+    {
         self.intervals.push(interval)?;
         Ok(())
     }

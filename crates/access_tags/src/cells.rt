@@ -29,6 +29,7 @@ pub struct Cells {
 impl Cells {
     ghost use Rattle.access_tags.specs.Tag.{no_tag, noted, ended, is_new};
     ghost use Rattle.access_tags.specs.Shelf.{tag_in, count};
+    ghost use Rattle.access_tags.specs.Written.{with_written};
 
     /// No locations. It takes no memory until it grows.
     pub fn new(alloc: Global) -> Cells
@@ -94,6 +95,30 @@ impl Cells {
         }
         self.marks.set(at, old.after(write));
         old.is_new()
+    }
+
+    /// Whether the running test touched none of the locations from a number up to but not another.
+    pub fn are_new(&self, first: u64, end: u64) -> bool
+        requires { end ≤ count self.now }
+        ensures { result ≡ true → (l : ℕ) → first ≤ l → l < end → is_new (tag_in self.now l).mark ≡ true }
+    {
+        for at in first..end {
+            if !self.marks.get(at).is_new() {
+                return false;
+            }
+        }
+        true
+    }
+
+    /// The running test writes the locations from a number up to but not another.
+    pub fn write_all(&mut self, first: u64, end: u64)
+        requires { end ≤ count self.old }
+        ensures count { count self.new ≡ count self.old }
+        ensures tags { first ≤ end → (l : ℕ) → tag_in self.new l ≡ with_written (tag_in self.old) first end l }
+    {
+        for at in first..end {
+            self.note(at, true);
+        }
     }
 
     /// Counts the conflicts at a location, which is shown as the part of an interval with an index.

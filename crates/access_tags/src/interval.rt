@@ -3,6 +3,7 @@
 ghost use Rattle.std.specs.Prelude.{◌≡◌, ℕ, ◌≤◌, ◌++◌, ◌∷◌, [], true, IfSome};
 ghost use Rattle.access_tags.specs.Intervals.{part_at, parts_of, spot_in};
 ghost use Rattle.access_tags.specs.Numbering.{is_name};
+ghost use Rattle.access_tags.specs.Written.{elems_from};
 
 use crate::conflict::{LocationKey, Touched};
 
@@ -76,6 +77,22 @@ impl Interval {
             object,
             first,
             end,
+            at,
+        })
+    }
+
+    /// So many elements of an array, of which the first one has the number `at`. There is none where the array or that number is
+    /// past 32 bits.
+    pub fn elems(object: u64, at: u64, many: u32) -> Option<Interval>
+        ensures { IfSome result (λ s. s ≡ elems_from object at many) }
+    {
+        let object = narrow(object)?;
+        let at = narrow(at)?;
+        Some(Interval {
+            sort: Sort::Elem,
+            object,
+            first: 0,
+            end: many,
             at,
         })
     }

@@ -1,6 +1,6 @@
 //! Touches of the parts of a world, noted at their numbers.
 
-ghost use Rattle.std.specs.Prelude.{◌≡◌, ◌<◌, List, [], ◌∷◌, length, true, false, None, OnOk};
+ghost use Rattle.std.specs.Prelude.{◌≡◌, ◌<◌, List, [], ◌∷◌, length, true, false, None, IfOk, OnOk};
 ghost use Rattle.jvm_model.specs.Access.{elems_made, fields_made, made};
 ghost use Rattle.jvm_model.specs.{Classes.blank, Classes.elems_of, View.Exists, View.keys};
 ghost use Rattle.jvm_model.specs.World.{World, Object, object_at, size};
@@ -71,10 +71,35 @@ fn note_elems(numbers: &Numbers, tags: &mut Tags, object: u64, elems: u32) -> Re
     ensures told { OnOk result ((w : World) (names : List Location) → IsNumbered w numbers.now → object < size w → length (object_at w object).elems ≡ elems
         → HaveNoted (numbering_in w names) tags.old tags.new (elems_made object 0 (object_at w object).elems)) }
 {
+    if note_at_once(numbers, tags, object, elems)? {
+        return Ok(());
+    }
     for index in 0..elems {
         note_new(numbers, tags, LocationKey::Elem { object, index })?;
     }
     Ok(())
+}
+
+/// Notes that the elements of a new array are written, if that can be done at once. Answers whether it was; if not, all is as
+/// before.
+fn note_at_once(
+    numbers: &Numbers,
+    tags: &mut Tags,
+    object: u64,
+    elems: u32,
+) -> Result<bool, NoMemory>
+    ensures room { HaveSameRoom tags.old tags.new }
+    ensures kept { IfOk result (λ b. b ≡ false → tags.new ≡ tags.old) }
+    ensures told { IfOk result (λ b. b ≡ true → (w : World) (names : List Location) → IsNumbered w numbers.now → object < size w → length (object_at w object).elems ≡ elems
+        → HaveNoted (numbering_in w names) tags.old tags.new (elems_made object 0 (object_at w object).elems)) }
+{
+    if elems == 0 {
+        return Ok(false);
+    }
+    match numbers.number(LocationKey::Elem { object, index: 0 }) {
+        Some(at) => tags.note_elems(object, at, elems),
+        None => Ok(false),
+    }
 }
 
 /// Notes what making an object without a text writes.

@@ -1,6 +1,6 @@
 //! The tags of a memory's locations.
 
-ghost use Rattle.std.specs.Prelude.{◌≡◌, ◌+◌, ◌<◌, ◌≤◌, ◌^◌, ◌++◌, ◌∷◌, [], ℕ, suc, List, length, cond, map, nat_eq, true, false, not, ◌&&◌, ◌||◌, OnOk};
+ghost use Rattle.std.specs.Prelude.{◌≡◌, ◌+◌, ◌<◌, ◌≤◌, ◌^◌, ◌++◌, ◌∷◌, [], ℕ, suc, List, length, cond, map, nat_eq, true, false, not, ◌&&◌, ◌||◌, IfOk, OnOk};
 ghost use Rattle.std.specs.List.{list_all};
 ghost use Rattle.jvm_model.specs.declared.values.Location.{Location};
 ghost use Rattle.jvm_model.specs.World.{same};
@@ -39,6 +39,7 @@ impl Tags {
     ghost use Rattle.jvm_model.specs.declared.values.Location.TheVariants as place;
     ghost use Rattle.order_law.specs.Exposed.{exposed};
     ghost use Rattle.access_tags.specs.Stands.{HasTouched, Stands};
+    ghost use Rattle.access_tags.specs.Written.{HaveWritten};
     ghost use Rattle.access_tags.specs.declared.conflict.LocationKey.TheVariants as spots;
     ghost use Rattle.access_tags.specs.Rows.{edges_at, shown_by, with_places};
     ghost use Rattle.access_tags.specs.declared.rows.Row.{Row as Found};
@@ -178,6 +179,27 @@ impl Tags {
             self.touched.push(Touched { spot, at })?;
         }
         Ok(())
+    }
+
+    /// Writes of all elements of an array, of which the first one has the number `at`. Where the running test touched one of
+    /// them before, and where the array or a number is past what there is, it answers no, and all is as before.
+    pub fn note_elems(&mut self, object: u64, at: u64, many: u32) -> Result<bool, NoMemory>
+        ensures cells { count self.new.cells ≡ count self.old.cells }
+        ensures named { count self.new.named ≡ count self.old.named }
+        ensures kept { IfOk result (λ b. b ≡ false → self.new ≡ self.old) }
+        ensures stands { IfOk result (λ b. b ≡ true → HaveWritten self.old self.new object at many) }
+    {
+        let Some(interval) = Interval::elems(object, at, many) else {
+            return Ok(false);
+        };
+        let first = interval.at as u64;
+        let end = first + many as u64;
+        if end > self.cells.len() || !self.cells.are_new(first, end) {
+            return Ok(false);
+        }
+        self.cells.write_all(first, end);
+        self.touched.push_interval(interval)?;
+        Ok(true)
     }
 
     /// Adds the rows of the running test, with this number: they are its edges in the record's order, each with its first

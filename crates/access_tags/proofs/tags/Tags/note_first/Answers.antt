@@ -1,9 +1,9 @@
 use Rattle.std.proofs.Common.{◌∙◌, List, [], ◌∷◌, ◌++◌, true, false, sym, subst}
 use Rattle.std.proofs.lemmas.List.{append-nil}
 use Rattle.access_tags.specs.declared.conflict.Touched.{Touched}
-use Rattle.access_tags.specs.{Shelf.tag_in, Stands.StandFor, AccessLogs.touched_in}
+use Rattle.access_tags.specs.{Shelf.tag_in, Stands.StandFor, AccessLogs.touched_in, Unread.AreUnread}
 use Rattle.access_tags.proofs.Stood.{noted_stands}
-use Rattle.access_tags.proofs.Unread.{first_unread, pushed_unread, reads_nothing, written_unread}
+use Rattle.access_tags.proofs.Unread.{first_unread, pushed, reads_nothing, written_unread}
 use Rattle.access_tags.proofs.tags.Tags.note_first.Goals as goal
 
 pub invariant_of-self-clause-unread : goal.invariant_of-self-clause-unread
@@ -16,7 +16,7 @@ invariant_of-self-clause-unread c q =
     let ds = tag_in o.named in
     let es = tag_in n.new.cells in
     let fs = tag_in n.new.named in
-    pushed_unread c.push.result es fs xs (touched_in c.push.new.self) _ c.push.ensures.pushed c.push.ensures.kept
+    pushed (λ (zs : List Touched). AreUnread es fs zs) c.push.result xs (touched_in c.push.new.self) _ c.push.ensures.pushed c.push.ensures.kept
     (first_unread cs ds es fs c.args.spot c.args.at c.args.write n.ensures.cells n.ensures.named xs r.1 (sym n.ensures.first ∙ c.if-is_first.true) (o.unread r.0))
     (written_unread cs ds es fs c.args.spot c.args.at c.args.write n.ensures.cells n.ensures.named xs r.1 (o.unread r.0))
 
