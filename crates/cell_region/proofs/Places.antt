@@ -1,8 +1,9 @@
 -- The cell at a place of the chunks joined together.
-use Rattle.std.proofs.Common.{◌≡◌, ℕ, zero, suc, ◌+◌, ◌-◌, ◌*◌, ◌/◌, ◌%◌, ◌<◌, ◌≤◌, List, [], ◌∷◌, ◌++◌, length, get_or, set, take, replicate, refl, sym, ◌∙◌, ap, arith, length-append, append_assoc}
+use Rattle.std.proofs.Common.{◌≡◌, ◌≢◌, inl, inr, ℕ, zero, suc, ◌+◌, ◌-◌, ◌*◌, ◌/◌, ◌%◌, ◌<◌, ◌≤◌, List, [], ◌∷◌, ◌++◌, length, get_or, set, take, replicate, refl, sym, ◌∙◌, ap, arith, length-append, append_assoc}
 use Rattle.std.proofs.Math.Seq.{take-set-lt}
-use Rattle.std.proofs.lemmas.List.{get_or_default, take_more_set, replicate_more, get_or-take, length-take-le, get_or_append_left, get_or-append-add, set-append_left, set-append_right, take-append-le, length-set}
-use Rattle.cell_region.specs.Chunks.{AreLong, joined, chunk_size}
+use Rattle.std.proofs.lemmas.Bool.{cases_eq, cases_lt}
+use Rattle.std.proofs.lemmas.List.{get_or_default, take_more_set, get_or-take, length-take-le, get_or_append_left, get_or-append-add, set-append_left, set-append_right, take-append-le, length-set, length-replicate, get_or-replicate, get_or-set_same, get_or-set_other, get_or_past, same_lists}
+use Rattle.cell_region.specs.Chunks.{AreLong, IsFilled, joined, chunk_size}
 
 pub joined-append : {X : Type 0} (cs ds : List (List X)) → joined (cs ++ ds) ≡ joined cs ++ joined ds
 joined-append [] ds = refl
@@ -85,17 +86,107 @@ stored cs i c d x h w a b =
 pub kept_more : {X : Type 0} (cs ds : List (List X)) (c : List X) (n : ℕ) → AreLong ds → n ≤ chunk_size * length ds → take n (joined ds) ≡ take n (joined cs) → take n (joined (ds ++ c ∷ [])) ≡ take n (joined cs)
 kept_more cs ds c n h w e = let l = length-joined ds h in let m : n ≤ length (joined ds) = omega arith in ap (take n) (joined-append ds (c ∷ [])) ∙ take-append-le n (joined ds) (joined (c ∷ [])) m ∙ e
 
--- the next cell gets the content that the ones before it got
-pub filled_more : {X : Type 0} (cs ds : List (List X)) (start i : ℕ) (v : List X) (x : X) → AreLong cs → start ≤ i → i < chunk_size * length cs → joined ds ≡ set (joined cs) i x →
-    take i (joined cs) ≡ v ++ replicate (i - start) x → take (i + 1) (joined ds) ≡ v ++ replicate (i + 1 - start) x
-filled_more cs ds start i v x h b w a e =
-    let l = length-joined cs h in let k : i < length (joined cs) = omega arith in
-    let n : i + 1 - start ≡ (i - start) + 1 = omega arith in
-    ap (take (i + 1)) a ∙ take_more_set (joined cs) i x k ∙ ap (λ t. t ++ x ∷ []) e ∙ append_assoc v (replicate (i - start) x) (x ∷ [])
-    ∙ ap (λ t. v ++ t) (replicate_more (i - start) x) ∙ ap (λ t. v ++ replicate t x) (sym n)
-
 -- one more cell
 pub pushed : {X : Type 0} (cs ds : List (List X)) (n : ℕ) (v : List X) (x : X) → AreLong cs → n < chunk_size * length cs → take n (joined cs) ≡ v → joined ds ≡ set (joined cs) n x → take (n + 1) (joined ds) ≡ v ++ x ∷ []
 pushed cs ds n v x h w e a =
     let l = length-joined cs h in let k : n < length (joined cs) = omega arith in
     ap (take (n + 1)) a ∙ take_more_set (joined cs) n x k ∙ ap (λ t. t ++ x ∷ []) e
+
+-- no place filled, one more, and further ones
+pub filled_none : {X : Type 0} (xs : List X) (start : ℕ) (x : X) → IsFilled xs xs start start x
+filled_none xs start x = record { length = refl; inside = λ i d a b. absurd (omega arith); outside = λ i d o. refl }
+
+pub filled_one : {X : Type 0} (xs ys : List X) (start i : ℕ) (x : X) → start ≤ i → i < length ys → IsFilled xs ys start i x → IsFilled xs (set ys i x) start (i + 1) x
+filled_one xs ys start i x h w f = record {
+  length = length-set ys i x ∙ f.length;
+  inside = λ k d a b. elim (cases_eq k i) [
+    | inl e ↦ rw e (get_or-set_same ys i x d w)
+    | inr e ↦ get_or-set_other ys i k x d e ∙ f.inside k d a (omega arith)
+  ];
+  outside = λ k d o. elim o [
+    | inl a ↦ get_or-set_other ys i k x d (λ e. omega arith) ∙ f.outside k d (inl a)
+    | inr a ↦ get_or-set_other ys i k x d (λ e. omega arith) ∙ f.outside k d (inr (omega arith))
+  ];
+}
+
+pub filled_on : {X : Type 0} (xs ys zs : List X) (start mid end : ℕ) (x : X) → start ≤ mid → mid ≤ end → IsFilled xs ys start mid x → IsFilled ys zs mid end x → IsFilled xs zs start end x
+filled_on xs ys zs start mid end x h w f g = record {
+  length = g.length ∙ f.length;
+  inside = λ k d a b. elim (cases_lt k mid) [
+    | inl l ↦ g.outside k d (inl l) ∙ f.inside k d a l
+    | inr l ↦ g.inside k d l b
+  ];
+  outside = λ k d o. elim o [
+    | inl a ↦ g.outside k d (inl (omega arith)) ∙ f.outside k d (inl a)
+    | inr a ↦ g.outside k d (inr a) ∙ f.outside k d (inr (omega arith))
+  ];
+}
+
+-- one chunk filled, from the cell on that stands at `start`
+pub filled_in : {X : Type 0} (cs : List (List X)) (start count : ℕ) (c d : List X) (x : X) → AreLong cs → start < chunk_size * length cs → start % chunk_size + count ≤ chunk_size → c ≡ get_or cs (start / chunk_size) c
+    → IsFilled c d (start % chunk_size) (start % chunk_size + count) x → AreLong (set cs (start / chunk_size) d) × IsFilled (joined cs) (joined (set cs (start / chunk_size) d)) start (start + count) x
+filled_in {X = X} cs start count c d x h w r a f =
+    let q = start / chunk_size in
+    let there : q < length cs = omega arith in
+    let e : c ≡ get_or cs q [] = a ∙ get_or_default cs q c [] there in
+    let l = long_at cs q [] h there in
+    let long : length d ≡ chunk_size = f.length ∙ ap length e ∙ l in
+    let ds = set cs q d in
+    let more : AreLong ds = long_set cs q d h long in
+    let many : length ds ≡ length cs = length-set cs q d in
+    let all : length (joined cs) ≡ chunk_size * length cs = length-joined cs h in
+    let alls : length (joined ds) ≡ chunk_size * length ds = length-joined ds more in
+    let old : (i : ℕ) (v : X) → i < chunk_size * length cs → i / chunk_size ≡ q → get_or (joined cs) i v ≡ get_or c (i % chunk_size) v = λ i v k j. get_joined cs i v h k ∙ ap (λ (n : ℕ). get_or (get_or cs n []) (i % chunk_size) v) j ∙ ap (λ (z : List X). get_or z (i % chunk_size) v) (sym e) in
+    let new : (i : ℕ) (v : X) → i < chunk_size * length cs → i / chunk_size ≡ q → get_or (joined ds) i v ≡ get_or d (i % chunk_size) v = λ i v k j.
+    get_joined ds i v more (omega arith) ∙ ap (λ (n : ℕ). get_or (get_or ds n []) (i % chunk_size) v) j ∙ ap (λ (z : List X). get_or z (i % chunk_size) v) (get_or-set_same cs q d [] there) in
+    let apart : (i : ℕ) (v : X) → i < chunk_size * length cs → i / chunk_size ≢ q → get_or (joined ds) i v ≡ get_or (joined cs) i v = λ i v k j.
+    get_joined ds i v more (omega arith) ∙ ap (λ (z : List X). get_or z (i % chunk_size) v) (get_or-set_other cs q (i / chunk_size) d [] j) ∙ sym (get_joined cs i v h k) in (
+      more,
+      record {
+        length = alls ∙ ap (λ (n : ℕ). chunk_size * n) many ∙ sym all;
+        inside = λ i v b k. let j : i / chunk_size ≡ q = omega arith in new i v (omega arith) j ∙ f.inside (i % chunk_size) v (omega arith) (omega arith);
+        outside = λ i v o. elim (cases_lt i (chunk_size * length cs)) [
+          | inl k ↦ elim (cases_eq (i / chunk_size) q) [
+            | inl j ↦ new i v k j ∙ f.outside (i % chunk_size) v (elim o [ inl b ↦ inl (omega arith) | inr b ↦ inr (omega arith) ]) ∙ sym (old i v k j)
+            | inr j ↦ apart i v k j
+          ]
+          | inr k ↦ get_or_past (joined ds) i v (omega (arith, alls)) ∙ sym (get_or_past (joined cs) i v (omega (arith, all)))
+        ];
+      },
+    )
+
+-- the cells that a list had, and as many more
+pub grown_cells : {X : Type 0} (xs ys zs : List X) (start end : ℕ) (x : X) → start ≤ end → end ≤ length xs → take start xs ≡ ys → IsFilled xs zs start end x → take end zs ≡ ys ++ replicate (end - start) x
+grown_cells {X = X} xs ys zs start end x h w e f =
+    let a : length (take end zs) ≡ end = length-take-le end zs (omega (arith, f.length)) in
+    let b : length (take start xs) ≡ start = length-take-le start xs (omega arith) in
+    let c : length ys ≡ start = ap length (sym e) ∙ b in
+    let d = length-append ys (replicate (end - start) x) in
+    let r = length-replicate (end - start) x in
+    same_lists (take end zs) (ys ++ replicate (end - start) x) (omega arith) (λ k v l. get_or-take end zs k v (omega arith) ∙ elim (cases_lt k start) [
+      | inl m ↦ f.outside k v (inl m) ∙ sym (get_or-take start xs k v m) ∙ ap (λ (z : List X). get_or z k v) e ∙ sym (get_or_append_left ys (replicate (end - start) x) v k (omega arith))
+      | inr m ↦
+          let n : k ≡ length ys + (k - start) = omega arith in
+          f.inside k v m (omega arith) ∙ sym (get_or-replicate (end - start) (k - start) x v (omega arith)) ∙ sym (ap (λ (i : ℕ). get_or (ys ++ replicate (end - start) x) i v) n ∙ get_or-append-add ys (replicate (end - start) x) (k - start) v)
+    ])
+
+-- the cells of chunks that have room for them
+pub grown_in : {X : Type 0} (bs zs : List (List X)) (start n end : ℕ) (x : X) (ys : List X) → AreLong bs → end ≤ chunk_size * length bs → end ≡ start + n → take start (joined bs) ≡ ys → IsFilled (joined bs) (joined zs) start end x → take end (joined zs) ≡ ys ++ replicate n x
+grown_in bs zs start n end x ys h w e s f =
+    let l = length-joined bs h in
+    let m : end - start ≡ n = omega arith in
+    grown_cells (joined bs) ys (joined zs) start end x (omega arith) (omega arith) s f ∙ ap (λ (k : ℕ). ys ++ replicate k x) m
+
+-- what a region sees of it
+pub filled_view : {X : Type 0} (xs zs v : List X) (len start end : ℕ) (x : X) → len ≤ length xs → end ≤ length v → take len xs ≡ v → IsFilled xs zs start end x → IsFilled v (take len zs) start end x
+filled_view {X = X} xs zs v len start end x w h e f =
+    let a : length (take len zs) ≡ len = length-take-le len zs (omega (arith, f.length)) in
+    let b : length v ≡ len = ap length (sym e) ∙ length-take-le len xs w in
+    record {
+      length = a ∙ sym b;
+      inside = λ i d l r. get_or-take len zs i d (omega arith) ∙ f.inside i d l r;
+      outside = λ i d o. elim (cases_lt i len) [
+        | inl l ↦ get_or-take len zs i d l ∙ f.outside i d o ∙ sym (get_or-take len xs i d l) ∙ ap (λ (z : List X). get_or z i d) e
+        | inr l ↦ get_or_past (take len zs) i d (omega (arith, a)) ∙ sym (get_or_past v i d (omega (arith, b)))
+      ];
+    }

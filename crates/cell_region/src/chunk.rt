@@ -1,4 +1,5 @@
-ghost use Rattle.std.specs.Prelude.{◌≡◌, List, length, ◌<◌, replicate, slice_index_or, slice_set, IfOk};
+ghost use Rattle.std.specs.Prelude.{◌≡◌, List, length, ◌<◌, ◌≤◌, replicate, slice_index_or, slice_set, IfOk};
+ghost use Rattle.cell_region.specs.Chunks.{IsFilled};
 
 use et_base::NoMemory;
 use std::alloc::Global;
@@ -40,5 +41,16 @@ impl<T: Copy> Chunk<T> {
         ensures { self.new ≡ slice_set self.old i content }
     {
         self.cells[i] = content;
+    }
+
+    /// Gives the cells from `start` up to but not `end` one content.
+    pub fn fill(&mut self, start: usize, end: usize, content: T)
+        requires order { start ≤ end }
+        requires within { end ≤ length self.old }
+        ensures { IsFilled self.old self.new start end content }
+    {
+        for i in start..end {
+            self.cells[i] = content;
+        }
     }
 }

@@ -1,5 +1,5 @@
-ghost use Rattle.std.specs.Prelude.{◌≡◌, ℕ, List, length, take, replicate, ◌-◌, ◌*◌, ◌^◌, ◌<◌, ◌≤◌, ◌++◌, slice_index_or, slice_set, IfOk, OnOk, OnErr, [], ◌∷◌};
-ghost use Rattle.cell_region.specs.Chunks.{AreLong, joined, chunk_size};
+ghost use Rattle.std.specs.Prelude.{◌≡◌, ℕ, List, length, take, replicate, ◌*◌, ◌^◌, ◌<◌, ◌≤◌, ◌++◌, slice_index_or, slice_set, IfOk, OnOk, OnErr, [], ◌∷◌};
+ghost use Rattle.cell_region.specs.Chunks.{AreLong, IsFilled, joined, chunk_size};
 
 use crate::chunk::Chunk;
 use et_base::NoMemory;
@@ -115,6 +115,15 @@ impl<T: Copy> Region<T> {
         set_cell(&mut self.chunks, i, content);
     }
 
+    /// Gives the cells from `start` up to but not `end` one content.
+    pub fn fill(&mut self, start: u64, end: u64, content: T)
+        requires order { start ≤ end }
+        requires within { end ≤ length self.old }
+        ensures { IsFilled self.old self.new start end content }
+    {
+        fill_cells(&mut self.chunks, start, end, content);
+    }
+
     /// The length as it is now.
     pub fn mark(&self) -> Mark
         ensures { result.len ≡ length self.now }
@@ -163,16 +172,36 @@ fn set_cell<T: Copy>(chunks: &mut Vec<Chunk<T>>, i: u64, content: T)
     chunk.set((i % CHUNK) as usize, content);
 }
 
-/// Gives the cells from `start` up to but not `end` the content `fill`.
+/// Gives the cells from `start` up to but not `end` the content `fill`, chunk by chunk.
 fn fill_cells<T: Copy>(chunks: &mut Vec<Chunk<T>>, start: u64, end: u64, fill: T)
     requires long { AreLong chunks.old.items }
     requires order { start ≤ end }
     requires within { end ≤ chunk_size * length chunks.old.items }
     ensures long { AreLong chunks.new.items }
     ensures len { length chunks.new.items ≡ length chunks.old.items }
-    ensures filled { take end (joined chunks.new.items) ≡ take start (joined chunks.old.items) ++ replicate (end - start) fill }
+    ensures filled { IsFilled (joined chunks.old.items) (joined chunks.new.items) start end fill }
 {
-    for i in start..end {
-        set_cell(chunks, i, fill);
+    let mut at = start;
+    while at < end {
+        at = fill_chunk(chunks, at, end, fill);
     }
+}
+
+/// Gives the cells from `start` up to but not `end` the content `fill`, as far as they stand in one chunk. Answers the first
+/// cell that is left.
+fn fill_chunk<T: Copy>(chunks: &mut Vec<Chunk<T>>, start: u64, end: u64, fill: T) -> u64
+    requires long { AreLong chunks.old.items }
+    requires order { start < end }
+    requires within { end ≤ chunk_size * length chunks.old.items }
+    ensures long { AreLong chunks.new.items }
+    ensures len { length chunks.new.items ≡ length chunks.old.items }
+    ensures later { start < result }
+    ensures order { result ≤ end }
+    ensures filled { IsFilled (joined chunks.old.items) (joined chunks.new.items) start result fill }
+{
+    let first = start % CHUNK;
+    let count = (end - start).min(CHUNK - first);
+    let chunk = &mut chunks[(start / CHUNK) as usize];
+    chunk.fill(first as usize, (first + count) as usize, fill);
+    start + count
 }
