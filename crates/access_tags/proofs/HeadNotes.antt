@@ -3,6 +3,7 @@ use Rattle.std.proofs.Common.{◌≡◌, ◌⊎◌, ◌+◌, ◌*◌, ◌<◌, �
 use Rattle.std.proofs.lemmas.Bool.{cases_Bool, cases_eq, cases_order, eqb-true, eq-eqb, ne_eqb, lt-ltb, le-ltb}
 use Rattle.std.proofs.lemmas.{List.append_assoc, List.get_or-set_other, Grind.get_or-set_at, Nat.mul-add-lt}
 use Rattle.std.proofs.{lemmas.List.Folds.list_any-append, Math.Bool.or-false, Math.Bool.or-true, Math.Nat.mul_comm}
+use Rattle.std.specs.List.{list_any}
 use Rattle.jvm_model.specs.declared.values.{Kind.Kind, Location.Location, Value.Value, Touch.Touch}
 use Rattle.jvm_model.specs.declared.values.Location.TheVariants as place
 use Rattle.jvm_model.specs.World.{Object, same}

@@ -33,3 +33,5 @@ pub mod Finding
 pub mod NamesKept
 pub mod FoundAll
 pub mod Written
+pub mod Filled
+pub mod Made

@@ -1,5 +1,5 @@
 -- The tag of a location, as a function of the touches of each test; and the conflicts that are read off it when a test ends.
-use Rattle.std.specs.Prelude.{◌≡◌, ◌<◌, ◌≤◌, ℕ, zero, suc, ◌-◌, List, [], ◌∷◌, ◌++◌, map, filter, flat_map, Bool, true, false, not, ◌&&◌, ◌||◌, cond, nat_eq}
+use Rattle.std.specs.Prelude.{◌≡◌, ◌<◌, ◌≤◌, ℕ, zero, suc, ◌-◌, List, [], ◌∷◌, ◌++◌, map, filter, flat_map, Bool, true, false, not, ◌&&◌, ◌||◌, cond, nat_eq, nat_le, nat_lt}
 use Rattle.std.specs.List.{range_with_len}
 use Rattle.jvm_model.specs.declared.values.{Location.Location, Touch.Touch}
 use Rattle.jvm_model.specs.declared.program.Program.{Program}
@@ -63,6 +63,14 @@ ended t g = record {
   readers = cond g.mark.written [] (cond g.mark.exposed (t ∷ g.readers) g.readers);
   mark = no_mark;
 }
+
+-- the tags after a change of those of the locations from a number up to but not another
+abbrev pub with_changed : (Tag → Tag) → (ℕ → Tag) → ℕ → ℕ → ℕ → Tag
+with_changed f c first end l = cond (nat_le first l && nat_lt l end) (f (c l)) (c l)
+
+-- the tag of a location that the running test wrote before any test read it or another wrote it
+abbrev pub made_tag : Tag
+made_tag = record { writer = 0; readers = []; mark = record { exposed = false; written = true } }
 
 -- a conflict of the running test at a place
 abbrev pub conflict : {P : Type 0} → EdgeKind → P → ℕ → Conflict P

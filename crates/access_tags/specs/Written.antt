@@ -1,16 +1,12 @@
 -- Elements of a new array, which the running test writes one after the other.
-use Rattle.std.specs.Prelude.{◌≡◌, ℕ, ◌<◌, ◌++◌, List, length, ◌&&◌, cond, nat_le, nat_lt, true}
+use Rattle.std.specs.Prelude.{◌≡◌, ℕ, ◌<◌, ◌++◌, List, length}
 use Rattle.jvm_model.specs.declared.values.{Touch.Touch, Value.Value}
 use Rattle.jvm_model.specs.Access.{elems_made}
 use Rattle.order_law.specs.Histories.{Touches}
 use Rattle.access_tags.specs.declared.interval.{Interval.Interval, Sort.TheVariants.Elem}
 use Rattle.access_tags.specs.declared.tags.Tags.{Tags}
-use Rattle.access_tags.specs.{Intervals.part_at, Stands.Stands, Tag.Tag, Tag.noted}
+use Rattle.access_tags.specs.{Intervals.part_at, Stands.Stands}
 use Rattle.access_tags.specs.Numbering.{Numbering, IsPlaced}
-
--- the tags after writes of the locations from a number up to but not another
-abbrev pub with_written : (ℕ → Tag) → ℕ → ℕ → ℕ → Tag
-with_written c first end l = cond (nat_le first l && nat_lt l end) (noted true (c l)) (c l)
 
 -- the first elements of array o, of which the first one has the number at
 abbrev pub elems_from : ℕ → ℕ → ℕ → Interval

@@ -27,9 +27,8 @@ pub struct Cells {
 }
 
 impl Cells {
-    ghost use Rattle.access_tags.specs.Tag.{no_tag, noted, ended, is_new};
+    ghost use Rattle.access_tags.specs.Tag.{no_tag, noted, ended, is_new, made_tag, with_changed};
     ghost use Rattle.access_tags.specs.Shelf.{tag_in, count};
-    ghost use Rattle.access_tags.specs.Written.{with_written};
 
     /// No locations. It takes no memory until it grows.
     pub fn new(alloc: Global) -> Cells
@@ -110,15 +109,71 @@ impl Cells {
         true
     }
 
-    /// The running test writes the locations from a number up to but not another.
+    /// The running test writes the locations from a number up to but not another, none of which it touched before.
+    #[tactic(auto, using(crate::proofs::Filled::written_all, crate::proofs::Filled::marks_cells))]
     pub fn write_all(&mut self, first: u64, end: u64)
-        requires { end ≤ count self.old }
+        requires order { first ≤ end }
+        requires within { end ≤ count self.old }
+        requires new { (l : ℕ) → first ≤ l → l < end → is_new (tag_in self.old l).mark ≡ true }
         ensures count { count self.new ≡ count self.old }
-        ensures tags { first ≤ end → (l : ℕ) → tag_in self.new l ≡ with_written (tag_in self.old) first end l }
+        ensures tags { (l : ℕ) → tag_in self.new l ≡ with_changed (noted true) (tag_in self.old) first end l }
+    {
+        self.marks.fill(first, end, Mark::WRITTEN);
+    }
+
+    /// Whether the running test wrote each location from a number up to but not another before any test touched it.
+    pub fn are_made(&self, first: u64, end: u64) -> bool
+        requires { end ≤ count self.now }
+        ensures { result ≡ true → (l : ℕ) → first ≤ l → l < end → tag_in self.now l ≡ made_tag }
     {
         for at in first..end {
-            self.note(at, true);
+            if !self.is_made(at) {
+                return false;
+            }
         }
+        true
+    }
+
+    /// Whether the running test wrote a location before any test touched it.
+    #[inline(always)]
+    fn is_made(&self, at: u64) -> bool
+        requires { at < count self.now }
+        ensures { result ≡ true → tag_in self.now at ≡ made_tag }
+    {
+        self.past(at).is_none() && self.marks.get(at).is_written_alone()
+    }
+
+    /// What tests that ended did at a location.
+    #[inline(always)]
+    fn past(&self, at: u64) -> Past
+        ensures { result ≡ get_or self.now.pasts at no_past }
+    {
+        if at < self.pasts.len() {
+            self.pasts.get(at)
+        } else {
+            Past::NONE
+        }
+    }
+
+    /// The running test, with this number, ended: what it did at the locations from a number up to but not another, each of
+    /// which it wrote before any test touched it, joins what earlier tests did.
+    #[tactic(auto, using(crate::proofs::Filled::ended_all, crate::proofs::Filled::ended_cells))]
+    pub fn end_made(&mut self, first: u64, end: u64, test: u32) -> Result<(), NoMemory>
+        requires order { first < end }
+        requires within { end ≤ count self.old }
+        requires made { (l : ℕ) → first ≤ l → l < end → tag_in self.old l ≡ made_tag }
+        ensures count { count self.new ≡ count self.old }
+        ensures tags { OnOk result ((l : ℕ) → tag_in self.new l
+            ≡ with_changed (ended test) (tag_in self.old) first end l) }
+    {
+        self.reach(end - 1)?;
+        self.marks.fill(first, end, Mark::NONE);
+        let past = Past {
+            writer: test,
+            readers: 0,
+        };
+        self.pasts.fill(first, end, past);
+        Ok(())
     }
 
     /// Counts the conflicts at a location, which is shown as the part of an interval with an index.

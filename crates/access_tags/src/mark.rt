@@ -1,6 +1,6 @@
 //! What is kept beside a location.
 
-ghost use Rattle.std.specs.Prelude.{◌≡◌, ◌&&◌, nat_eq};
+ghost use Rattle.std.specs.Prelude.{◌≡◌, ◌&&◌, not, nat_eq};
 ghost use Rattle.access_tags.specs.Tag.{covers, marked, is_new};
 
 /// What the running test did at a location: whether it has an exposed read of it, which no write of its own precedes, and
@@ -69,6 +69,19 @@ impl Mark {
         ensures { result ≡ covers write self }
     {
         self.written || (self.exposed && !write)
+    }
+
+    pub const WRITTEN: Mark = Mark {
+        exposed: false,
+        written: true,
+    };
+
+    /// Whether there was a write, and no exposed read.
+    #[inline(always)]
+    pub fn is_written_alone(self) -> bool
+        ensures { result ≡ (not self.exposed && self.written) }
+    {
+        !self.exposed && self.written
     }
 
     /// Whether there was no touch.

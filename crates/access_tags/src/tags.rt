@@ -1,10 +1,10 @@
 //! The tags of a memory's locations.
 
-ghost use Rattle.std.specs.Prelude.{◌≡◌, ◌+◌, ◌<◌, ◌≤◌, ◌^◌, ◌++◌, ◌∷◌, [], ℕ, suc, List, length, cond, map, nat_eq, true, false, not, ◌&&◌, ◌||◌, IfOk, OnOk};
+ghost use Rattle.std.specs.Prelude.{◌≡◌, ◌+◌, ◌<◌, ◌≤◌, ◌^◌, ◌++◌, ◌∷◌, [], ℕ, suc, ◌-◌, List, length, cond, map, nat_eq, true, false, not, ◌&&◌, ◌||◌, IfOk, OnOk};
 ghost use Rattle.std.specs.List.{list_all};
 ghost use Rattle.jvm_model.specs.declared.values.Location.{Location};
 ghost use Rattle.jvm_model.specs.World.{same};
-ghost use Rattle.access_tags.specs.Tag.{Tag, covers, ended, conflicts_at, is_new, noted};
+ghost use Rattle.access_tags.specs.Tag.{Tag, covers, ended, conflicts_at, is_new, noted, made_tag};
 ghost use Rattle.access_tags.specs.{Counted.HaveCounted, HaveEnded.HaveEnded, Shelf.tag_in, Shelf.count, Within.room, Within.AreWithin, Unread.AreUnread};
 ghost use Rattle.access_tags.specs.Numbering.{Numbering, are_alone, conflicts_in, is_alone, is_name, tag_at};
 ghost use Rattle.access_tags.specs.Intervals.{part_at, parts, parts_of};
@@ -18,6 +18,9 @@ use crate::rows::Row;
 use crate::table::Table;
 use et_base::{Items, NoMemory};
 use std::alloc::Global;
+
+/// How many parts an interval has at least that is looked at as a whole.
+const MANY: u32 = 16;
 
 /// The tags of statics, class states and the parts of objects, those of files and properties, what the running test touched
 /// in the order of first touch, and whether it may have an exposed read.
@@ -441,10 +444,29 @@ fn end_interval(
     ensures ended { OnOk result (HaveEnded test (tag_in cells.old) (tag_in named.old)
         (tag_in cells.new) (tag_in named.new) table.old table.new (parts_of interval)) }
 {
+    if is_made(cells, interval) {
+        return cells.end_made(interval.at as u64, interval.number(interval.end), test);
+    }
     for index in interval.first..interval.end {
         end_part(cells, named, interval, index, test, table)?;
     }
     Ok(())
+}
+
+/// Whether the running test wrote each part of an interval of many before any test touched it; of files and properties it isn't.
+fn is_made(cells: &Cells, interval: Interval) -> bool
+    requires { interval.first ≤ interval.end }
+    ensures named { result ≡ true → (i : ℕ) → is_name (part_at interval i).spot ≡ false }
+    ensures many { result ≡ true → interval.first < interval.end }
+    ensures within { result ≡ true → interval.at + (interval.end - interval.first) ≤ count cells.now }
+    ensures made { result ≡ true → (i : ℕ) → interval.first ≤ i → i < interval.end
+        → tag_in cells.now (part_at interval i).at ≡ made_tag }
+{
+    let end = interval.number(interval.end);
+    if interval.sort.is_named() || interval.end - interval.first < MANY || end > cells.len() {
+        return false;
+    }
+    cells.are_made(interval.at as u64, end)
 }
 
 /// Counts the conflicts at the parts that a test touched, and what it did there joins what earlier tests did.

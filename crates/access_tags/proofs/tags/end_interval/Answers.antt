@@ -1,6 +1,7 @@
-use Rattle.std.proofs.Common.{◌≡◌, ℕ, ◌∙◌, arith, refl, subst}
-use Rattle.access_tags.specs.{HaveEnded.HaveEnded, Shelf.tag_in, Intervals.part_at, Intervals.parts_of, Intervals.parts_to}
-use Rattle.access_tags.proofs.{More.within_more, Spanned.within_part}
+use Rattle.std.proofs.Common.{◌≡◌, ℕ, ◌+◌, ◌-◌, ◌∙◌, arith, refl, subst}
+use Rattle.std.proofs.lemmas.Result.{on_ok_weaker}
+use Rattle.access_tags.specs.{HaveEnded.HaveEnded, Shelf.tag_in, Intervals.part_at, Intervals.parts_of, Intervals.parts_to, Tag.ended, Tag.made_tag, Tag.with_changed}
+use Rattle.access_tags.proofs.{Made.made_ended, More.within_more, Spanned.within_part}
 use Rattle.access_tags.proofs.Parted.{ended_first, ended_one, ended_to}
 use Rattle.access_tags.proofs.tags.end_interval.Goals as goal
 
@@ -35,3 +36,19 @@ returns-clause-ended c =
     let l = c.loop-index in
     let e : l.index ≡ o.interval.end = omega (arith, c.loop-index-test.false, l.auto.index-end) in
     subst (λ (i : ℕ). HaveEnded o.test (tag_in o.cells.now) (tag_in o.named.now) (tag_in l.cells) (tag_in l.named) o.table.now l.table (parts_to o.interval i)) e l.invariant.3
+
+pub end_made-requires-clause-made : goal.end_made-requires-clause-made
+end_made-requires-clause-made c l a b =
+    let s = c.args.interval in
+    let i = s.first + (l - s.at) in
+    let e : s.at + (i - s.first) ≡ l = omega arith in
+    subst (λ (k : ℕ). tag_in c.args.cells.now k ≡ made_tag) e (c.is_made.ensures.made c.if-is_made.true i (omega arith) (omega (arith, c.number.ensures)))
+
+pub returns-then-is_made-clause-ended : goal.returns-then-is_made-clause-ended
+returns-then-is_made-clause-ended c =
+    let o = c.args in
+    let s = o.interval in
+    on_ok_weaker c.end_made.result
+    (λ g. made_ended o.test (tag_in o.cells.now) (tag_in o.named.now) o.table.now s (c.is_made.ensures.named c.if-is_made.true) (c.is_made.ensures.made c.if-is_made.true) (tag_in c.end_made.new.self) c.requires.order
+    (λ l. subst (λ (e : ℕ). tag_in c.end_made.new.self l ≡ with_changed (ended o.test) (tag_in o.cells.now) s.at e l) c.number.ensures (g l)))
+    c.end_made.ensures.tags

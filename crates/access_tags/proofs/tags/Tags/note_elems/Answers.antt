@@ -1,7 +1,7 @@
 use Rattle.std.proofs.Common.{◌≡◌, ℕ, ◌+◌, ◌<◌, ◌++◌, List, true, ap, sym, subst, arith}
 use Rattle.jvm_model.specs.Access.{elems_made}
 use Rattle.access_tags.specs.declared.{conflict.Touched.Touched, interval.Interval.Interval}
-use Rattle.access_tags.specs.{AccessLogs.touched_in, Intervals.parts_of, Shelf.tag_in, Stands.StandFor, Tag.is_new, Unread.AreUnread, Within.AreWithin, Written.elems_from, Written.with_written}
+use Rattle.access_tags.specs.{AccessLogs.touched_in, Intervals.parts_of, Shelf.tag_in, Stands.StandFor, Tag.is_new, Tag.noted, Tag.with_changed, Unread.AreUnread, Within.AreWithin, Written.elems_from}
 use Rattle.access_tags.proofs.Written.{unread_written, within_left, within_written, written_stands}
 use Rattle.access_tags.proofs.{More.within_more, Unread.pushed, Unread.unread_left}
 use Rattle.access_tags.proofs.tags.Tags.note_elems.Goals as goal
@@ -14,8 +14,8 @@ invariant_of-self c =
     let cs = tag_in o.cells in
     let ds = tag_in o.named in
     let es = tag_in c.write_all.new.self in
-    let w : (l : ℕ) → es l ≡ with_written cs c.args.at (c.args.at + c.args.many) l =
-    subst (λ (a : ℕ). (l : ℕ) → es l ≡ with_written cs a (a + c.args.many) l) f (c.write_all.ensures.tags (omega arith)) in
+    let w : (l : ℕ) → es l ≡ with_changed (noted true) cs c.args.at (c.args.at + c.args.many) l =
+    subst (λ (a : ℕ). (l : ℕ) → es l ≡ with_changed (noted true) cs a (a + c.args.many) l) f c.write_all.ensures.tags in
     let new : (i : ℕ) → i < c.args.many → is_new (cs (c.args.at + i)).mark ≡ true =
     λ i h. c.are_new.ensures c.if-not-are_new.false (c.args.at + i) (omega (arith, f)) (omega (arith, f)) in
     let within = subst (λ (s : Interval). AreWithin c.write_all.new.self o.named (xs ++ parts_of s)) (sym c.in-Some.ensures)
@@ -40,8 +40,8 @@ returns-clause-stands c q n T t ts vs many p s =
     let ds = tag_in o.named in
     let es = tag_in c.write_all.new.self in
     let us = ts ++ elems_made c.args.object 0 vs in
-    let w : (l : ℕ) → es l ≡ with_written cs c.args.at (c.args.at + c.args.many) l =
-    subst (λ (a : ℕ). (l : ℕ) → es l ≡ with_written cs a (a + c.args.many) l) f (c.write_all.ensures.tags (omega arith)) in
+    let w : (l : ℕ) → es l ≡ with_changed (noted true) cs c.args.at (c.args.at + c.args.many) l =
+    subst (λ (a : ℕ). (l : ℕ) → es l ≡ with_changed (noted true) cs a (a + c.args.many) l) f c.write_all.ensures.tags in
     let new : (i : ℕ) → i < c.args.many → is_new (cs (c.args.at + i)).mark ≡ true =
     λ i h. c.are_new.ensures c.if-not-are_new.false (c.args.at + i) (omega (arith, f)) (omega (arith, f)) in
     subst (λ (zs : List Touched). StandFor n T t us es ds zs) (sym c.in_ok-push_interval.ensures.pushed)
