@@ -1,13 +1,13 @@
 -- The tags after marks and pasts of a range of locations were filled.
-use Rattle.std.proofs.Common.{◌≡◌, ℕ, ◌<◌, ◌≤◌, true, false, not, ◌&&◌, Bool, List, get_or, reverse, refl, sym, ◌∙◌, ap, arith, inl, inr, nat_eq}
-use Rattle.std.proofs.lemmas.Bool.{cases_lt, and_parts, eqb-true}
+use Rattle.std.proofs.Common.{◌≡◌, ℕ, ◌<◌, ◌≤◌, true, false, not, Bool, List, get_or, reverse, refl, sym, ◌∙◌, ap, arith, inl, inr}
+use Rattle.std.proofs.lemmas.Bool.{cases_lt, and_parts}
 use Rattle.cell_region.specs.Chunks.{IsFilled}
 use Rattle.access_tags.specs.declared.mark.{Mark.Mark, Past.Past, Reader.Reader}
 use Rattle.access_tags.specs.Tag.{Tag, ended, is_new, noted, no_mark, with_changed, made_tag}
 use Rattle.access_tags.specs.Cells.{chain, look, no_past, tag_by, AreCells}
 use Rattle.access_tags.proofs.{Chains.chain_end, Settle.past, Settle.same_tag, Written.changed_in}
 
-abbrev wrote : Mark
+abbrev pub wrote : Mark
 wrote = record { exposed = false; written = true }
 
 -- the running test wrote all of a range, and touched none before
@@ -52,12 +52,5 @@ module _ (ps qs : List Past) (rs : List Reader) (ms ns : List Mark) (first end t
   }
 
 -- a location that the running test made
-pub made_there : (x : Past) (rs : List Reader) (m : Mark) → (nat_eq x.writer 0 && nat_eq x.readers 0) ≡ true → (not m.exposed && m.written) ≡ true → tag_by x rs m ≡ made_tag
-made_there x rs m h k =
-    let both = and_parts (nat_eq x.writer 0) (nat_eq x.readers 0) h in
-    let two = and_parts (not m.exposed) m.written k in
-    same_tag (eqb-true x.writer 0 both.0) (ap (λ (n : ℕ). chain rs n) (eqb-true x.readers 0 both.1) ∙ chain_end rs) (flags m.exposed m.written two.0 two.1)
-  where
-    flags : (e w : Bool) → not e ≡ true → w ≡ true → record { exposed = e; written = w } ≡ wrote
-    flags false true a b = refl
-    flags _ _ a b = absurd (cc)
+pub made_there : {x : Past} {m : Mark} (rs : List Reader) → x ≡ no_past → m ≡ wrote → tag_by x rs m ≡ made_tag
+made_there rs e f = same_tag (ap (λ (x : Past). x.writer) e) (ap (λ (x : Past). chain rs x.readers) e ∙ chain_end rs) f

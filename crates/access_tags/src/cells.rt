@@ -101,12 +101,7 @@ impl Cells {
         requires { end ≤ count self.now }
         ensures { result ≡ true → (l : ℕ) → first ≤ l → l < end → is_new (tag_in self.now l).mark ≡ true }
     {
-        for at in first..end {
-            if !self.marks.get(at).is_new() {
-                return false;
-            }
-        }
-        true
+        are_marked(&self.marks, first, end, Mark::NONE)
     }
 
     /// The running test writes the locations from a number up to but not another, none of which it touched before.
@@ -126,33 +121,8 @@ impl Cells {
         requires { end ≤ count self.now }
         ensures { result ≡ true → (l : ℕ) → first ≤ l → l < end → tag_in self.now l ≡ made_tag }
     {
-        for at in first..end {
-            if !self.is_made(at) {
-                return false;
-            }
-        }
-        true
-    }
-
-    /// Whether the running test wrote a location before any test touched it.
-    #[inline(always)]
-    fn is_made(&self, at: u64) -> bool
-        requires { at < count self.now }
-        ensures { result ≡ true → tag_in self.now at ≡ made_tag }
-    {
-        self.past(at).is_none() && self.marks.get(at).is_written_alone()
-    }
-
-    /// What tests that ended did at a location.
-    #[inline(always)]
-    fn past(&self, at: u64) -> Past
-        ensures { result ≡ get_or self.now.pasts at no_past }
-    {
-        if at < self.pasts.len() {
-            self.pasts.get(at)
-        } else {
-            Past::NONE
-        }
+        are_marked(&self.marks, first, end, Mark::WRITTEN)
+            && are_untouched(&self.pasts, first, end.min(self.pasts.len()))
     }
 
     /// The running test, with this number, ended: what it did at the locations from a number up to but not another, each of
@@ -281,6 +251,62 @@ impl Cells {
         }
         Ok(())
     }
+}
+
+/// Whether all marks from a place up to but not another are this one.
+fn are_marked(marks: &Region<Mark>, first: u64, end: u64, mark: Mark) -> bool
+    requires { end ≤ length marks.now }
+    ensures { result ≡ true → (l : ℕ) → first ≤ l → l < end → get_or marks.now l no_mark ≡ mark }
+{
+    let mut at = first;
+    while at < end {
+        let run = marks.run(at, end);
+        if !all_are(run, mark) {
+            return false;
+        }
+        at += run.len() as u64;
+    }
+    true
+}
+
+/// Whether all marks are this one.
+fn all_are(marks: &[Mark], mark: Mark) -> bool
+    ensures { result ≡ true → (i : ℕ) → i < length marks.now → get_or marks.now i no_mark ≡ mark }
+{
+    for i in 0..marks.len() {
+        if marks[i] != mark {
+            return false;
+        }
+    }
+    true
+}
+
+/// Whether no test that ended touched the locations from a place up to but not another.
+fn are_untouched(pasts: &Region<Past>, first: u64, end: u64) -> bool
+    requires { end ≤ length pasts.now }
+    ensures { result ≡ true → (l : ℕ) → first ≤ l → l < end → get_or pasts.now l no_past ≡ no_past }
+{
+    let mut at = first;
+    while at < end {
+        let run = pasts.run(at, end);
+        if !all_none(run) {
+            return false;
+        }
+        at += run.len() as u64;
+    }
+    true
+}
+
+/// Whether no test wrote or read where these pasts are.
+fn all_none(pasts: &[Past]) -> bool
+    ensures { result ≡ true → (i : ℕ) → i < length pasts.now → get_or pasts.now i no_past ≡ no_past }
+{
+    for i in 0..pasts.len() {
+        if !pasts[i].is_none() {
+            return false;
+        }
+    }
+    true
 }
 
 /// Counts the conflicts at the part of an interval with an index, of a test that left this mark there with the tests before

@@ -1,11 +1,11 @@
 //! What is kept beside a location.
 
-ghost use Rattle.std.specs.Prelude.{◌≡◌, ◌&&◌, not, nat_eq};
+ghost use Rattle.std.specs.Prelude.{◌≡◌, ◌&&◌, nat_eq};
 ghost use Rattle.access_tags.specs.Tag.{covers, marked, is_new};
 
 /// What the running test did at a location: whether it has an exposed read of it, which no write of its own precedes, and
 /// whether it wrote it.
-#[derive(Clone, Copy)]
+#[derive(Clone, Copy, PartialEq, Eq)]
 pub struct Mark {
     pub exposed: bool,
     pub written: bool,
@@ -75,14 +75,6 @@ impl Mark {
         exposed: false,
         written: true,
     };
-
-    /// Whether there was a write, and no exposed read.
-    #[inline(always)]
-    pub fn is_written_alone(self) -> bool
-        ensures { result ≡ (not self.exposed && self.written) }
-    {
-        !self.exposed && self.written
-    }
 
     /// Whether there was no touch.
     pub fn is_new(self) -> bool

@@ -3,7 +3,7 @@ use Rattle.std.proofs.Common.{◌≡◌, ◌≢◌, inl, inr, ℕ, zero, suc, �
 use Rattle.std.proofs.Math.Seq.{take-set-lt}
 use Rattle.std.proofs.lemmas.Bool.{cases_eq, cases_lt}
 use Rattle.std.proofs.lemmas.List.{get_or_default, take_more_set, get_or-take, length-take-le, get_or_append_left, get_or-append-add, set-append_left, set-append_right, take-append-le, length-set, length-replicate, get_or-replicate, get_or-set_same, get_or-set_other, get_or_past, same_lists}
-use Rattle.cell_region.specs.Chunks.{AreLong, IsFilled, joined, chunk_size}
+use Rattle.cell_region.specs.Chunks.{AreLong, IsFilled, IsRun, joined, chunk_size}
 
 pub joined-append : {X : Type 0} (cs ds : List (List X)) → joined (cs ++ ds) ≡ joined cs ++ joined ds
 joined-append [] ds = refl
@@ -189,4 +189,21 @@ filled_view {X = X} xs zs v len start end x w h e f =
         | inl l ↦ get_or-take len zs i d l ∙ f.outside i d o ∙ sym (get_or-take len xs i d l) ∙ ap (λ (z : List X). get_or z i d) e
         | inr l ↦ get_or_past (take len zs) i d (omega (arith, a)) ∙ sym (get_or_past v i d (omega (arith, b)))
       ];
+    }
+
+-- cells of one chunk beside one another
+pub run_in : {X : Type 0} (cs : List (List X)) (v : List X) (len start count : ℕ) (c run : List X) → AreLong cs → len ≤ chunk_size * length cs → take len (joined cs) ≡ v → start + count ≤ length v → start % chunk_size + count ≤ chunk_size → 0 < count
+    → c ≡ get_or cs (start / chunk_size) c → IsRun c (start % chunk_size) count run → IsRun v start count run
+run_in {X = X} cs v len start count c run h w e s r some a f =
+    let b : len ≡ length v = view_length cs len v h w e in
+    let q = start / chunk_size in
+    let there : q < length cs = omega arith in
+    record {
+      length = f.length;
+      cells = λ i d l.
+          let j : (start + i) / chunk_size ≡ q = omega arith in
+          let k : (start + i) % chunk_size ≡ start % chunk_size + i = omega arith in
+          f.cells i d l ∙ ap (λ (n : ℕ). get_or c n d) (sym k) ∙ ap (λ (z : List X). get_or z ((start + i) % chunk_size) d) (a ∙ get_or_default cs q c [] there)
+          ∙ ap (λ (n : ℕ). get_or (get_or cs n []) ((start + i) % chunk_size) d) (sym j)
+          ∙ sym (get_joined cs (start + i) d h (omega arith)) ∙ sym (get_or-take len (joined cs) (start + i) d (omega arith)) ∙ ap (λ (z : List X). get_or z (start + i) d) e;
     }

@@ -1,5 +1,5 @@
-ghost use Rattle.std.specs.Prelude.{◌≡◌, List, length, ◌<◌, ◌≤◌, replicate, slice_index_or, slice_set, IfOk};
-ghost use Rattle.cell_region.specs.Chunks.{IsFilled};
+ghost use Rattle.std.specs.Prelude.{◌≡◌, List, length, ◌<◌, ◌≤◌, ◌-◌, replicate, slice_index_or, slice_set, IfOk};
+ghost use Rattle.cell_region.specs.Chunks.{IsFilled, IsRun};
 
 use et_base::NoMemory;
 use std::alloc::Global;
@@ -33,6 +33,15 @@ impl<T: Copy> Chunk<T> {
         ensures { result ≡ slice_index_or self.now i result }
     {
         self.cells[i]
+    }
+
+    /// The cells from `start` up to but not `end`.
+    pub fn slice(&self, start: usize, end: usize) -> &[T]
+        requires order { start ≤ end }
+        requires within { end ≤ length self.now }
+        ensures { IsRun self.now start (end - start) result.now }
+    {
+        &self.cells[start..end]
     }
 
     /// Gives a cell another content.

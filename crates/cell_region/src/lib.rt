@@ -6,7 +6,8 @@
 //!
 //! - `Region::grow` and `Region::push` append cells, or leave the list as it was.
 //! - `Region::get` and `Region::set` read and write one cell, whose place is below the length;
-//!   `Region::fill` writes all from one place up to another.
+//!   `Region::fill` writes all from one place up to another, and `Region::run` lends those beside
+//!   one another.
 //! - `Region::release` cuts the list at a `mark` and keeps the chunks for later growth.
 //!
 //! `push` is inlined always; where a chunk is added it hands on a copy of the content, which so

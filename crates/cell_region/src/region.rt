@@ -1,5 +1,5 @@
-ghost use Rattle.std.specs.Prelude.{◌≡◌, ℕ, List, length, take, replicate, ◌*◌, ◌^◌, ◌<◌, ◌≤◌, ◌++◌, slice_index_or, slice_set, IfOk, OnOk, OnErr, [], ◌∷◌};
-ghost use Rattle.cell_region.specs.Chunks.{AreLong, IsFilled, joined, chunk_size};
+ghost use Rattle.std.specs.Prelude.{◌≡◌, ℕ, List, length, take, replicate, ◌+◌, ◌*◌, ◌^◌, ◌<◌, ◌≤◌, ◌++◌, slice_index_or, slice_set, IfOk, OnOk, OnErr, [], ◌∷◌};
+ghost use Rattle.cell_region.specs.Chunks.{AreLong, IsFilled, IsRun, joined, chunk_size};
 
 use crate::chunk::Chunk;
 use et_base::NoMemory;
@@ -105,6 +105,19 @@ impl<T: Copy> Region<T> {
         ensures { result ≡ slice_index_or self.now i result }
     {
         self.chunks[(i / CHUNK) as usize].get((i % CHUNK) as usize)
+    }
+
+    /// The cells from `start` on, up to but not `end`, that stand beside one another: one at least.
+    pub fn run(&self, start: u64, end: u64) -> &[T]
+        requires order { start < end }
+        requires within { end ≤ length self.now }
+        ensures some { 0 < length result.now }
+        ensures within { start + length result.now ≤ end }
+        ensures cells { IsRun self.now start (length result.now) result.now }
+    {
+        let first = start % CHUNK;
+        let count = (end - start).min(CHUNK - first);
+        self.chunks[(start / CHUNK) as usize].slice(first as usize, (first + count) as usize)
     }
 
     /// Gives a cell another content.

@@ -1,0 +1,10 @@
+use Rattle.std.proofs.Common.{◌≡◌, ◌<◌, ◌≤◌, ◌-◌, ℕ, get_or}
+use Rattle.access_tags.specs.Cells.{no_past}
+use Rattle.access_tags.proofs.cells.are_untouched.Given as goal
+
+abbrev pub invariant-loop-at : goal.invariant-loop-at
+invariant-loop-at l = (k : ℕ) → l.first ≤ k → k < l.at → get_or l.pasts k no_past ≡ no_past
+
+-- proposed from the loop's first test
+abbrev pub decreases-loop-at : goal.decreases-loop-at
+decreases-loop-at l = l.end - l.at
