@@ -17,16 +17,3 @@ fn is_cut(alloc: Global) -> Result<bool, NoMemory> {
 fn a_region_is_cut_at_its_mark_and_grows_again(rt: HostRuntime) {
     assert!(rt; is_cut(rt.alloc()).unwrap_or(false));
 }
-
-fn is_filled(alloc: Global) -> Result<bool, NoMemory> {
-    let mut region = Region::new(alloc);
-    region.grow(65_540, 7u32)?;
-    region.fill(65_534, 65_538, 5);
-    let is_kept = region.get(65_533) == 7 && region.get(65_538) == 7;
-    Ok(is_kept && region.get(65_534) == 5 && region.get(65_537) == 5)
-}
-
-#[test]
-fn a_region_is_filled_across_its_chunks(rt: HostRuntime) {
-    assert!(rt; is_filled(rt.alloc()).unwrap_or(false));
-}
