@@ -80,7 +80,7 @@ same_conflicts n c d e f (y ∷ ys) p h =
 
 module _ (t : ℕ) where
   pub ended_none : (c d : ℕ → Tag) (a : Table) → HaveEnded t c d c d a a []
-  ended_none c d a n p q = record { tags = λ L. refl; counted = counted_none a }
+  ended_none c d a = record { some = ([], counted_none a); apart = λ n p q. record { tags = λ L. refl; counted = counted_none a } }
 
   pub ended_first : (c d : ℕ → Tag) (a : Table) (s : Interval) → HaveEnded t c d c d a a (parts_to s s.first)
   ended_first c d a s = let e : s.first - s.first ≡ 0 = omega arith in
@@ -88,29 +88,35 @@ module _ (t : ℕ) where
 
   pub ended_one : (c d e f : ℕ → Tag) (a b : Table) (x : Touched) → ((l : ℕ) → e l ≡ cond (not (is_name x.spot) && nat_eq l x.at) (ended t (c x.at)) (c l)) →
       ((l : ℕ) → f l ≡ cond (is_name x.spot && nat_eq l x.at) (ended t (d x.at)) (d l)) → HaveCounted a b (conflicts_at x.spot (tag_at c d x)) → HaveEnded t c d e f a b (x ∷ [])
-  ended_one c d e f a b x g h k n p q = record {
-    tags = λ L. changed n x (λ (z : Tag). ended t z) c d e f p.0 g h L ∙ elim (cases_Bool (is_at n L x)) [
-      | inl s ↦ rw s (ap (λ (M : Location). ended t (view n c d M)) (sym (same_true L (located n.names x.spot) s)))
-      | inr s ↦ rw s refl
-    ];
-    counted = subst (λ (hs : List (Conflict LocationKey)). HaveCounted a b hs) (sym (append-nil (conflicts_at x.spot (tag_at c d x)))) k;
+  ended_one c d e f a b x g h k = record {
+    some = (conflicts_at x.spot (tag_at c d x), k);
+    apart = λ n p q. record {
+      tags = λ L. changed n x (λ (z : Tag). ended t z) c d e f p.0 g h L ∙ elim (cases_Bool (is_at n L x)) [
+        | inl s ↦ rw s (ap (λ (M : Location). ended t (view n c d M)) (sym (same_true L (located n.names x.spot) s)))
+        | inr s ↦ rw s refl
+      ];
+      counted = subst (λ (hs : List (Conflict LocationKey)). HaveCounted a b hs) (sym (append-nil (conflicts_at x.spot (tag_at c d x)))) k;
+    };
   }
 
   pub ended_after : (c d e f g h : ℕ → Tag) (a b b' : Table) (xs ys : List Touched) → HaveEnded t c d e f a b xs → HaveEnded t e f g h b b' ys → HaveEnded t c d g h a b' (xs ++ ys)
-  ended_after c d e f g h a b b' xs ys u v n p q =
-      let r = subst (λ (ls : List Location). Apart same ls) (map-append (λ (x : Touched). located n.names x.spot) xs ys) q in
-      let ls = locations n xs in
-      let ms = locations n ys in
-      let x = u n (placed_left n xs ys p) (apart_left ls ms r) in
-      let y = v n (placed_right n xs ys p) (apart_right ls ms r) in
-      let s = same_conflicts n c d e f ys (placed_right n xs ys p) (λ L k. x.tags L ∙ ap (λ (z : Bool). cond z (ended t (view n c d L)) (view n c d L)) (any_location n L xs ∙ apart_other L ls ms r k)) in
-      record {
-        tags = λ L. both_sides (list_any (is_at n L) xs) (list_any (is_at n L) ys) t (view n c d L) (view n e f L) (view n g h L)
-            (λ k. any_location n L ys ∙ apart_both L ls ms r (sym (any_location n L xs) ∙ k)) (x.tags L) (y.tags L)
-            ∙ ap (λ (z : Bool). cond z (ended t (view n c d L)) (view n c d L)) (sym (list_any-append (is_at n L) xs ys));
-        counted = subst (λ (hs : List (Conflict LocationKey)). HaveCounted a b' hs) (sym (flat_map-append (λ (x : Touched). conflicts_at x.spot (tag_at c d x)) xs ys))
-            (counted_after a b b' (conflicts_in c d xs) (conflicts_in c d ys) x.counted (subst (λ (hs : List (Conflict LocationKey)). HaveCounted b b' hs) s y.counted));
-      }
+  ended_after c d e f g h a b b' xs ys u v = record {
+    some = (u.some.0 ++ v.some.0, counted_after a b b' u.some.0 v.some.0 u.some.1 v.some.1);
+    apart = λ n p q.
+        let r = subst (λ (ls : List Location). Apart same ls) (map-append (λ (x : Touched). located n.names x.spot) xs ys) q in
+        let ls = locations n xs in
+        let ms = locations n ys in
+        let x = u.apart n (placed_left n xs ys p) (apart_left ls ms r) in
+        let y = v.apart n (placed_right n xs ys p) (apart_right ls ms r) in
+        let s = same_conflicts n c d e f ys (placed_right n xs ys p) (λ L k. x.tags L ∙ ap (λ (z : Bool). cond z (ended t (view n c d L)) (view n c d L)) (any_location n L xs ∙ apart_other L ls ms r k)) in
+        record {
+          tags = λ L. both_sides (list_any (is_at n L) xs) (list_any (is_at n L) ys) t (view n c d L) (view n e f L) (view n g h L)
+              (λ k. any_location n L ys ∙ apart_both L ls ms r (sym (any_location n L xs) ∙ k)) (x.tags L) (y.tags L)
+              ∙ ap (λ (z : Bool). cond z (ended t (view n c d L)) (view n c d L)) (sym (list_any-append (is_at n L) xs ys));
+          counted = subst (λ (hs : List (Conflict LocationKey)). HaveCounted a b' hs) (sym (flat_map-append (λ (x : Touched). conflicts_at x.spot (tag_at c d x)) xs ys))
+              (counted_after a b b' (conflicts_in c d xs) (conflicts_in c d ys) x.counted (subst (λ (hs : List (Conflict LocationKey)). HaveCounted b b' hs) s y.counted));
+        };
+  }
 
 -- where no test wrote or read, there are no conflicts
 fresh_at : (x : LocationKey) (g : Tag) → g.writer ≡ 0 → g.readers ≡ [] → conflicts_at x g ≡ []

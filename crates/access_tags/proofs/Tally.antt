@@ -2,14 +2,14 @@
 use Rattle.std.proofs.Common.{◌≡◌, ℕ, zero, suc, ◌+◌, ◌*◌, ◌-◌, ◌<◌, ◌≤◌, Bool, true, false, ◌&&◌, cond, List, [], ◌∷◌, ◌++◌, length, get_or, set, map, filter, flat_map, refl, sym, ◌∙◌, ap, subst, arith, nat_eq, inl, inr}
 use Rattle.std.specs.List.{range_with_len}
 use Rattle.std.proofs.lemmas.Bool.{cases_Bool, cases_lt, eqb-true, eq-eqb, eqb-false, ne_eqb}
-use Rattle.std.proofs.lemmas.List.{get_or-set_other, length-append, append-nil, append_assoc, map-append, map-id, flat_map_more}
+use Rattle.std.proofs.lemmas.List.{get_or-set_other, length-append, length-set, append-nil, append_assoc, map-append, map-id, flat_map_more}
 use Rattle.std.proofs.{lemmas.List.Elements.filter-append, lemmas.List.FromFn.map-range_with_len_more}
 use Rattle.std.proofs.lemmas.Grind.{get_or-set_at}
 use Rattle.order_law.specs.declared.edges.{EdgeKind.EdgeKind, EdgeKind.TheVariants.Raw, EdgeKind.TheVariants.Waw, EdgeKind.TheVariants.War}
 use Rattle.access_tags.specs.declared.conflict.{Conflict.Conflict, LocationKey.LocationKey}
 use Rattle.access_tags.specs.declared.rows.Row.{Row}
 use Rattle.access_tags.specs.Tag.{found, is_conflict, same_kind, kind_number}
-use Rattle.access_tags.specs.Rows.{key, row_with, rows_between, IsTable}
+use Rattle.access_tags.specs.Rows.{key, row_with, rows_between, HasRows, IsTable}
 
 -- one conflict more
 same_three : (u v a : ℕ) → nat_eq (3 * u + a) (3 * v + a) ≡ nat_eq u v
@@ -88,7 +88,48 @@ table_grown t rows a b c l f p q r = subst (λ (ys : List Row). IsTable (t + 1) 
 pub three_longer : (rows : List Row) (a b c : Row) → length (((rows ++ a ∷ []) ++ b ∷ []) ++ c ∷ []) ≡ length rows + 3
 three_longer rows a b c = let e = length-append ((rows ++ a ∷ []) ++ b ∷ []) (c ∷ []) in let f = length-append (rows ++ a ∷ []) (b ∷ []) in let g = length-append rows (a ∷ []) in omega arith
 
--- the rows of a test
+-- the rows of a test, each read before it is replaced
+pub three_read : (u : ℕ) (hs : List (Conflict LocationKey)) (rows : List Row) (x y a b c : Row) → HasRows u hs rows →
+    a ≡ get_or rows (3 * u) a → b ≡ get_or (set rows (3 * u) x) (3 * u + 1) b → c ≡ get_or (set (set rows (3 * u) x) (3 * u + 1) y) (3 * u + 2) c →
+    (a ≡ row_with Raw u (found Raw u hs)) × (b ≡ row_with Waw u (found Waw u hs)) × (c ≡ row_with War u (found War u hs))
+three_read u hs rows x y a b c h e f g = (
+  e ∙ (ap (λ (i : ℕ). get_or rows i a) (omega arith) ∙ h Raw a),
+  f ∙ (get_or-set_other rows (3 * u) (3 * u + 1) x b (λ q. absurd (omega (arith, q))) ∙ h Waw b),
+  g ∙ (get_or-set_other (set rows (3 * u) x) (3 * u + 1) (3 * u + 2) y c (λ q. absurd (omega (arith, q))) ∙ (get_or-set_other rows (3 * u) (3 * u + 2) x c (λ q. absurd (omega (arith, q))) ∙ h War c)),
+)
+
+-- the rows of a test, each replaced by one of no conflicts
+pub three_none : (u : ℕ) (rows : List Row) (x y z : Row) → 3 * u + 2 < length rows → x ≡ row_with Raw u [] → y ≡ row_with Waw u [] → z ≡ row_with War u [] →
+    HasRows u [] (set (set (set rows (3 * u) x) (3 * u + 1) y) (3 * u + 2) z)
+three_none u rows x y z l e f g = by
+  where
+    first : List Row
+    first = set rows (3 * u) x
+
+    second : List Row
+    second = set first (3 * u + 1) y
+
+    by : HasRows u [] (set second (3 * u + 2) z)
+    by Raw d = get_or-set_other second (3 * u + 2) (key Raw u) z d (λ q. absurd (omega (arith, q)))
+        ∙ (get_or-set_other first (3 * u + 1) (key Raw u) y d (λ q. absurd (omega (arith, q))) ∙ (get_or-set_at rows (3 * u) (key Raw u) x d (omega arith) (omega arith) ∙ e))
+    by Waw d = get_or-set_other second (3 * u + 2) (key Waw u) z d (λ q. absurd (omega (arith, q)))
+        ∙ (get_or-set_at first (3 * u + 1) (key Waw u) y d (omega arith) (omega (arith, length-set rows (3 * u) x)) ∙ f)
+    by War d = get_or-set_at second (3 * u + 2) (key War u) z d (omega arith) (omega (arith, length-set rows (3 * u) x, length-set first (3 * u + 1) y)) ∙ g
+
+-- no conflicts with the tests from 1 and before this one, nor with this one
+pub none_more : (t : ℕ) (rows news : List Row) → ((i : ℕ) (d : Row) → i < 3 * t → get_or news i d ≡ get_or rows i d) → HasRows t [] news →
+    ((u : ℕ) → 1 ≤ u → u < t → HasRows u [] rows) → (u : ℕ) → 1 ≤ u → u < t + 1 → HasRows u [] news
+none_more t rows news f g h u o l k d = elim (cases_lt u t) [
+  | inl b ↦ f (key k u) d (key_within k u t (3 * t) b refl) ∙ h u o b k d
+  | inr b ↦ let e : u ≡ t = omega arith in subst (λ (v : ℕ). get_or news (key k v) d ≡ row_with k v []) (sym e) (g k d)
+]
+
+-- nor with the one that has the number 0
+pub none_at_all : (t : ℕ) (rows news : List Row) → ((i : ℕ) (d : Row) → 3 ≤ i → get_or news i d ≡ get_or rows i d) → HasRows 0 [] news →
+    ((u : ℕ) → 1 ≤ u → u < t → HasRows u [] rows) → IsTable t [] news
+none_at_all t rows news f g h k zero d l = g k d
+none_at_all t rows news f g h k (suc u) d l = f (key k (suc u)) d (omega arith) ∙ h (suc u) (omega arith) l k d
+
 pub three_rows : (o p q r u v w : List Row) → p ≡ o ++ u → q ≡ p ++ v → r ≡ q ++ w → r ≡ o ++ (u ++ (v ++ w))
 three_rows o p q r u v w e f g = g ∙ (ap (λ (x : List Row). x ++ w) (f ∙ ap (λ (x : List Row). x ++ v) e) ∙ (append_assoc (o ++ u) v w ∙ append_assoc o u (v ++ w)))
 

@@ -64,12 +64,24 @@ impl Row {
         ensures table { IfOk result (λ rows. IsTable later [] rows.items) }
     {
         let mut rows = Vec::with_capacity(alloc, 3 * later as usize)?;
-        for earlier in 0..later {
+        Row::grow(&mut rows, 0, later)?;
+        Ok(rows)
+    }
+
+    /// Rows of no conflicts more, of each kind and each test from `first` and before `later`, behind those of the tests
+    /// before `first`.
+    pub fn grow(rows: &mut Vec<Row>, first: u32, later: u32) -> Result<(), NoMemory>
+        requires le { first ≤ later }
+        requires len { length rows.old.items ≡ 3 * first }
+        ensures len { OnOk result (length rows.new.items ≡ 3 * later) }
+        ensures table { OnOk result (IsTable first [] rows.old.items → IsTable later [] rows.new.items) }
+    {
+        for earlier in first..later {
             rows.push(Row::none(EdgeKind::Raw, earlier))?;
             rows.push(Row::none(EdgeKind::Waw, earlier))?;
             rows.push(Row::none(EdgeKind::War, earlier))?;
         }
-        Ok(rows)
+        Ok(())
     }
 
     /// One more conflict, which is left out where it is with no earlier test.
@@ -94,13 +106,26 @@ impl Row {
 
     /// Moves a row that has a location to the end of these.
     fn hand_on(&mut self, rows: &mut Items<Row>) -> Result<(), NoMemory>
-        ensures { OnOk result ((k : Kind) (u : ℕ) (xs : List Part) → self.old ≡ row_with k u xs → rows.new ≡ rows.old ++ row_of k u xs) }
+        ensures rows { OnOk result ((k : Kind) (u : ℕ) (xs : List Part) → self.old ≡ row_with k u xs → rows.new ≡ rows.old ++ row_of k u xs) }
+        ensures none { OnOk result ((k : Kind) (u : ℕ) (xs : List Part) → self.old ≡ row_with k u xs → self.new ≡ row_with k u []) }
     {
         if self.count == 0 {
             return Ok(());
         }
         let none = Row::none(self.kind, self.earlier);
         rows.push(mem::replace(self, none))
+    }
+
+    /// Leaves out the conflicts with the test that has the number 0.
+    pub fn clear_first(table: &mut Vec<Row>)
+        requires { 2 < length table.old.items }
+        ensures len { length table.new.items ≡ length table.old.items }
+        ensures later { (i : ℕ) (d : Row) → 3 ≤ i → get_or table.new.items i d ≡ get_or table.old.items i d }
+        ensures none { HasRows 0 [] table.new.items }
+    {
+        table[0] = Row::none(EdgeKind::Raw, 0);
+        table[1] = Row::none(EdgeKind::Waw, 0);
+        table[2] = Row::none(EdgeKind::War, 0);
     }
 
     /// Moves the rows of an earlier test that have a location to the end of these.
@@ -112,7 +137,9 @@ impl Row {
         requires { 3 * earlier + 2 < length table.old.items }
         ensures len { length table.new.items ≡ length table.old.items }
         ensures later { OnOk result ((i : ℕ) (d : Row) → 3 * (earlier + 1) ≤ i → get_or table.new.items i d ≡ get_or table.old.items i d) }
+        ensures before { OnOk result ((i : ℕ) (d : Row) → i < 3 * earlier → get_or table.new.items i d ≡ get_or table.old.items i d) }
         ensures rows { OnOk result ((hs : List (Found Part)) → HasRows earlier hs table.old.items → rows.new ≡ rows.old ++ rows_between earlier hs) }
+        ensures none { OnOk result ((hs : List (Found Part)) → HasRows earlier hs table.old.items → HasRows earlier [] table.new.items) }
     {
         let first = 3 * earlier as usize;
         table[first].hand_on(rows)?;

@@ -34,6 +34,35 @@ impl Table {
         })
     }
 
+    /// No conflicts of the test with the number 0. Takes no memory.
+    pub fn none(alloc: Global) -> Table
+        ensures { Counts result [] }
+    {
+        Table {
+            later: 0,
+            rows: Vec::new(alloc),
+            alloc,
+        }
+    }
+
+    /// No conflicts of a test with this number, in the memory of these where it isn't before theirs.
+    pub fn until(self, later: u32) -> Result<Table, NoMemory>
+        requires { Counts self [] }
+        ensures later { IfOk result (λ x. x.later ≡ later) }
+        ensures counts { IfOk result (λ x. Counts x []) }
+    {
+        if later < self.later {
+            return Table::new(self.alloc, later);
+        }
+        let Table {
+            later: first,
+            mut rows,
+            alloc,
+        } = self;
+        Row::grow(&mut rows, first, later)?;
+        Ok(Table { later, rows, alloc })
+    }
+
     /// One more conflict, which is left out where it is with no earlier test.
     #[inline(always)]
     pub fn add(&mut self, conflict: Conflict<LocationKey>) -> Result<(), NoMemory>
@@ -42,11 +71,12 @@ impl Table {
         Row::count(&mut self.rows, self.alloc, conflict, self.later)
     }
 
-    /// Moves the rows that have a location to the end of these, by the earlier test and then the kind.
+    /// Moves the rows that have a location to the end of these, by the earlier test and then the kind. No conflicts stay.
     pub fn hand_on(&mut self, rows: &mut Items<Row>) -> Result<(), NoMemory>
         requires { 0 < self.old.later }
-        ensures { OnOk result ((hs : List (Found Part)) → Counts self.old hs
+        ensures rows { OnOk result ((hs : List (Found Part)) → Counts self.old hs
             → rows.new ≡ rows.old ++ rows_to self.old.later hs) }
+        ensures none { OnOk result ((hs : List (Found Part)) → Counts self.old hs → Counts self.new []) }
     {
         if rows.is_empty() {
             *rows = Items::with_capacity(self.alloc, self.filled())?;
@@ -54,6 +84,7 @@ impl Table {
         for earlier in 1..self.later {
             Row::hand_three_on(&mut self.rows, earlier, rows)?;
         }
+        Row::clear_first(&mut self.rows);
         Ok(())
     }
 

@@ -5,7 +5,7 @@ ghost use Rattle.std.specs.List.{list_all};
 ghost use Rattle.jvm_model.specs.declared.values.Location.{Location};
 ghost use Rattle.jvm_model.specs.World.{same};
 ghost use Rattle.access_tags.specs.Tag.{Tag, covers, ended, conflicts_at, is_new, noted, made_tag};
-ghost use Rattle.access_tags.specs.{Counted.HaveCounted, HaveEnded.HaveEnded, Shelf.tag_in, Shelf.count, Within.room, Within.AreWithin, Unread.AreUnread};
+ghost use Rattle.access_tags.specs.{Counted.Counts, Counted.HaveCounted, HaveEnded.HaveEnded, Shelf.tag_in, Shelf.count, Within.room, Within.AreWithin, Unread.AreUnread};
 ghost use Rattle.access_tags.specs.Numbering.{Numbering, are_alone, conflicts_in, is_alone, is_name, tag_at};
 ghost use Rattle.access_tags.specs.Intervals.{part_at, parts, parts_of};
 
@@ -18,6 +18,7 @@ use crate::rows::Row;
 use crate::table::Table;
 use et_base::{Items, NoMemory};
 use std::alloc::Global;
+use std::mem;
 
 /// How many parts an interval has at least that is looked at as a whole.
 const MANY: u32 = 16;
@@ -30,8 +31,10 @@ pub struct Tags {
     named: Cells,
     touched: AccessLog,
     reads: bool,
+    table: Table,
     ghost within: { AreWithin cells named (parts touched.intervals) },
     ghost unread: { reads ≡ false → AreUnread (tag_in cells) (tag_in named) (parts touched.intervals) },
+    ghost counted: { Counts table [] },
 }
 
 impl Tags {
@@ -59,6 +62,7 @@ impl Tags {
             named: Cells::new(alloc),
             touched: AccessLog::new(alloc),
             reads: false,
+            table: Table::none(alloc),
         }
     }
 
@@ -249,7 +253,8 @@ impl Tags {
         ensures stands { OnOk result ((n : Numbering) (T : Touches) (t : ℕ) (ts : List Touch) → test ≡ suc t → T test ≡ ts → Stands n T t ts self.old → Stands n T test [] self.new) }
     {
         self.reads = true;
-        let mut table = Table::new(alloc, test)?;
+        let kept = mem::replace(&mut self.table, Table::none(alloc));
+        let mut table = kept.until(test)?;
         end_all(
             &mut self.cells,
             &mut self.named,
@@ -258,6 +263,7 @@ impl Tags {
             &mut table,
         )?;
         table.hand_on(rows)?;
+        self.table = table;
         self.touched.clear();
         self.reads = false;
         Ok(())

@@ -29,6 +29,7 @@ invariant_of-self c =
           (unread_written cs ds c.args.object c.args.at c.args.many new xs es w (o.unread q)) in
           pushed (λ (zs : List Touched). AreUnread es ds zs) c.push_interval.result xs (touched_in c.push_interval.new.self) (parts_of c.in-Some.interval)
           c.push_interval.ensures.pushed c.push_interval.ensures.kept unread (unread_left es ds xs (parts_of c.in-Some.interval) unread);
+      counted = o.counted;
     }
 
 pub returns-clause-stands : goal.returns-clause-stands

@@ -2,7 +2,7 @@ use Rattle.std.proofs.Common.{◌≡◌, ◌++◌, ◌∷◌, [], List, length, 
 use Rattle.access_tags.specs.declared.rows.Row.{Row}
 use Rattle.access_tags.specs.Rows.{IsTable}
 use Rattle.access_tags.proofs.Tally.{table_grown, three_longer}
-use Rattle.access_tags.proofs.rows.Row.table.Goals as goal
+use Rattle.access_tags.proofs.rows.Row.grow.Goals as goal
 
 pub loop-earlier-preserved : goal.loop-earlier-preserved
 loop-earlier-preserved c =
@@ -15,5 +15,5 @@ loop-earlier-preserved c =
     c.in_ok-push-3.ensures.items ∙ ap (λ (ys : List Row). ys ++ z ∷ []) (c.in_ok-push-2.ensures.items ∙ ap (λ (ys : List Row). ys ++ y ∷ []) c.in_ok-push.ensures.items) in
     let l = ap (λ (ys : List Row). length ys) e ∙ three_longer rs x y z in (
       omega (arith, c.loop-earlier.invariant.0),
-      subst (λ (ys : List Row). IsTable (t + 1) [] ys) (sym e) (table_grown t rs x y z c.loop-earlier.invariant.0 c.loop-earlier.invariant.1 c.none.ensures c.none-in-loop-earlier.ensures c.none-in-loop-earlier-2.ensures),
+      λ f. subst (λ (ys : List Row). IsTable (t + 1) [] ys) (sym e) (table_grown t rs x y z c.loop-earlier.invariant.0 (c.loop-earlier.invariant.1 f) c.none.ensures c.none-in-loop-earlier.ensures c.none-in-loop-earlier-2.ensures),
     )

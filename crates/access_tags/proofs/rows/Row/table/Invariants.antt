@@ -1,6 +1,0 @@
-use Rattle.std.proofs.Common.{◌≡◌, ◌*◌, [], length}
-use Rattle.access_tags.specs.Rows.{IsTable}
-use Rattle.access_tags.proofs.rows.Row.table.Given as goal
-
-abbrev pub invariant-loop-earlier : goal.invariant-loop-earlier
-invariant-loop-earlier l = (length l.rows.items ≡ 3 * l.earlier) × IsTable l.earlier [] l.rows.items
