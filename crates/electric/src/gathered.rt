@@ -73,7 +73,7 @@ impl<S: Sink + Drop> Gathered<S> {
     }
 
     // Offers what is gathered to the sink once, and says how many bytes that took. That it stands apart puts the machine's
-    // loops, which the program has behind it, where few of their jumps cross 32 bytes.
+    // loop of `run`, which the program has behind it, where few of its jumps cross 32 bytes.
     #[inline(never)]
     fn hand_on(&mut self) -> usize
         requires { 0 < length self.old.bytes }
